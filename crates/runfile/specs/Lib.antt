@@ -1,2 +1,4 @@
 pub mod Numbers
 pub mod Lines
+pub mod Files
+pub mod Readers
