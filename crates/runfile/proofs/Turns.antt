@@ -21,7 +21,7 @@ use Rattle.runfile.specs.declared.refusal.Refusal.{Refusal}
 use Rattle.runfile.specs.declared.refusal.Refusal.the-variants.{TooManyTurns}
 
 -- what asking for a turn gave
-abbrev Next : Type 0
+abbrev pub Next : Type 0
 Next = Result (Option (Turn × Place)) Refusal
 
 -- all turns, by the next one
@@ -30,13 +30,13 @@ unfolding turnsFrom
 turns-by zero at = ((λ _. Ok []), refl)
 turns-by (suc m) at = (turnsFrom m, refl)
 
-turns-none : (m : ℕ) (at : Place) → nextTurn at ≡ Ok None → turnsFrom m at ≡ Ok []
+pub turns-none : (m : ℕ) (at : Place) → nextTurn at ≡ Ok None → turnsFrom m at ≡ Ok []
 turns-none m at e = let t = turns-by m at in t .1 ∙ ap (λ n. goOn n (t .0)) e
 
-turns-err : (m : ℕ) (at : Place) (f : Refusal) → nextTurn at ≡ Err f → turnsFrom m at ≡ Err f
+pub turns-err : (m : ℕ) (at : Place) (f : Refusal) → nextTurn at ≡ Err f → turnsFrom m at ≡ Err f
 turns-err m at f e = let t = turns-by m at in t .1 ∙ ap (λ n. goOn n (t .0)) e
 
-turns-some : (m : ℕ) (at : Place) (x : Turn × Place) → nextTurn at ≡ Ok (Some x) → turnsFrom (suc m) at ≡ before (x .0) (turnsFrom m (x .1))
+pub turns-some : (m : ℕ) (at : Place) (x : Turn × Place) → nextTurn at ≡ Ok (Some x) → turnsFrom (suc m) at ≡ before (x .0) (turnsFrom m (x .1))
 unfolding turnsFrom
 turns-some m at x e = ap (λ n. goOn n (turnsFrom m)) e
 

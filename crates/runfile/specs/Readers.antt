@@ -1,8 +1,11 @@
 -- What the reader hands out, in terms of what a file means.
-use Prim.Native.Nat.{ℕ}
+use Prim.Native.Nat.{ℕ, _≤_}
+use lib.ListN.{length}
 use mathlib.Core.List.{List}
 use mathlib.Core.Path.{_≡_}
 use Rattle.std.specs.Of.Vec.{vec-items}
+use Rattle.std.specs.Vec.{made}
+use Rattle.std.specs.shelf.Lists.{All}
 use Rattle.std.specs.declared.vec.Vec.{Vec}
 use Rattle.std.specs.declared.alloc.Global.{Global}
 use Rattle.std.specs.declared.option.Option.{Option}
@@ -13,6 +16,7 @@ use Rattle.protocol.specs.declared.turn.Turn.{Turn}
 use Rattle.runfile.specs.declared.loom.Loom.{Loom}
 use Rattle.runfile.specs.declared.refusal.Refusal.{Refusal}
 use Rattle.runfile.specs.Files.{Place}
+use Rattle.runfile.specs.Spelling.{spellFile, FitLoom, FitTurn, SpelledBy}
 use Rattle.runfile.specs.declared.file.ReadError.{ReadError}
 use Rattle.runfile.specs.declared.file.ReadError.the-variants.{Refused, NoMemory}
 use Rattle.runfile.specs.declared.file.RunFile.{RunFile}
@@ -45,3 +49,13 @@ ReadTurns r meant = Told vec-items r meant
 
 abbrev pub Read : Result RunFile ReadError → Result (Loom × List Turn) Refusal → Type 0
 Read r meant = Told (λ file. (file .loom, vec-items (file .turns))) r meant
+
+-- The laws of reading. What is spelled is read back: at most 4,096 turns in at most 32,768 bytes.
+abbrev pub ReadsBack : List ℕ → Result RunFile ReadError → Type 0
+ReadsBack bs r =
+  (loom : Loom) (turns : List Turn) → FitLoom loom → All FitTurn turns → length turns ≤ 4096 → length bs ≤ 32768
+  → bs ≡ spellFile loom turns → Read r (Ok (loom, turns))
+
+-- What is read was spelled so, in just these bytes.
+abbrev pub Spelled : List ℕ → Result RunFile ReadError → Type 0
+Spelled bs r = made r (λ file. SpelledBy bs (file .loom) (vec-items (file .turns)))

@@ -1,7 +1,7 @@
 // A whole run file: its loom and all its turns, or the refusal.
 ghost use mathlib.Core.Path.{_≡_};
 ghost use Rattle.runfile.specs.Files.{fileOf, turnsFrom, numberOf, lineOf};
-ghost use Rattle.runfile.specs.Readers.{place, Read, ReadTurns};
+ghost use Rattle.runfile.specs.Readers.{place, Read, ReadTurns, ReadsBack, Spelled};
 ghost use Rattle.runfile.specs.declared.file.ReadError.the-variants.{Refused as IsRefused, NoMemory as IsNoMemory};
 use crate::loom::Loom;
 use crate::reader::FileReader;
@@ -81,7 +81,7 @@ fn rest_of(heap: Global, mut reader: TurnReader) -> Result<Vec<Turn>, ReadError>
     Ok(turns)
 }
 
-pub fn read(heap: Global, bytes: &[u8]) -> Result<RunFile, ReadError>
+fn read_all(heap: Global, bytes: &[u8]) -> Result<RunFile, ReadError>
     ensures { λ r. ⌜ Read r (fileOf (now (bytes .entry))) ⌝ }
 {
     if bytes.len() > MAX_BYTES {
@@ -90,4 +90,14 @@ pub fn read(heap: Global, bytes: &[u8]) -> Result<RunFile, ReadError>
     let (loom, reader) = FileReader::new(bytes).first_line()?;
     let turns = rest_of(heap, reader)?;
     Ok(RunFile { loom, turns })
+}
+
+// Reads what the bytes mean. By the laws, they are taken just where they spell a loom and turns
+// within bounds, and are then read as that loom and those turns.
+pub fn read(heap: Global, bytes: &[u8]) -> Result<RunFile, ReadError>
+    ensures meant { λ r. ⌜ Read r (fileOf (now (bytes .entry))) ⌝ }
+    ensures reads_back { λ r. ⌜ ReadsBack (now (bytes .entry)) r ⌝ }
+    ensures spelled { λ r. ⌜ Spelled (now (bytes .entry)) r ⌝ }
+{
+    read_all(heap, bytes)
 }

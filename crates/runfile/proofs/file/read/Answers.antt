@@ -1,7 +1,8 @@
-use Rattle.runfile.specs.Readers.{place}
-use Rattle.runfile.proofs.Turns.{first-two}
+use Rattle.runfile.proofs.SpelledFiles.{reads-back, spelled}
 use Rattle.runfile.proofs.file.read.Needs as need
 
-pub rest-of-requires : need.rest-of-requires
-rest-of-requires c κs =
-  first-two (c .new .result .bytes .now) (c .in-Continue-loom .loom, place (c .in-Continue-loom .reader)) (c .in-Continue-loom .ensures tt)
+pub returns : need.returns
+returns c = record {
+  meant = c .read-all .ensures;
+  reads-back = reads-back (c .args .bytes .now) (c .read-all .result) (c .read-all .ensures);
+  spelled = spelled (c .args .bytes .now) (c .read-all .result) (c .read-all .ensures) }
