@@ -58,6 +58,9 @@ def answer(data):
 
 
 def file_of(row):
+    if row.startswith("@"):
+        with open("examples/" + row[1:], "rb") as f:
+            return f.read()
     out = ""
     for piece in row.split(";"):
         times, text = piece.split("*", 1) if "*" in piece else ("1", piece)
