@@ -15,19 +15,19 @@ use Rattle.std.specs.declared.result.Result.{Result}
 use Rattle.std.specs.declared.result.Result.the-variants.{Ok, Err}
 use Rattle.std.proofs.shelf.Tests.{cond-true, cond-false, le-leb, lt-leb, leb-false}
 use Rattle.protocol.specs.declared.turn.Turn.{Turn}
-use Rattle.runfile.specs.Lines.{turnLine, loomLine}
+use Rattle.lines.specs.Lines.{turnLine, loomLine}
 use Rattle.runfile.specs.Files.{Place, afterLoom, firstLine, afterTurn, turnAt, nextTurn, before, goOn, turnsFrom, withLoom, afterFirst, fileOf}
-use Rattle.runfile.specs.Spelling.{spellTurn, spellLoom, spellFile, FitLoom, FitTurn, SpelledBy}
+use Rattle.lines.specs.Spelling.{spellTurn, spellLoom, spellFile, FitLoom, FitTurn, SpelledBy}
 use Rattle.runfile.specs.Readers.{Read, ReadsBack, Spelled}
 use Rattle.runfile.specs.declared.file.ReadError.{ReadError}
 use Rattle.runfile.specs.declared.file.ReadError.the-variants.{Refused, NoMemory}
 use Rattle.runfile.specs.declared.file.RunFile.{RunFile}
-use Rattle.runfile.specs.declared.loom.Loom.{Loom}
+use Rattle.lines.specs.declared.loom.Loom.{Loom}
 use Rattle.runfile.specs.declared.refusal.Refusal.{Refusal}
 use Rattle.runfile.specs.declared.refusal.Refusal.the-variants.{TooLong, TooManyTurns}
 use Rattle.runfile.proofs.Turns.{Next, turns-none, turns-some}
-use Rattle.runfile.proofs.SpelledLines.{turn-spelled, turn-was}
-use Rattle.runfile.proofs.SpelledLooms.{loom-spelled, loom-was}
+use Rattle.lines.proofs.SpelledLines.{turn-spelled, turn-was}
+use Rattle.lines.proofs.SpelledLooms.{loom-spelled, loom-was}
 
 abbrev placed : List ℕ → ℕ → Place
 placed bs line = record { rest = bs; line = line }

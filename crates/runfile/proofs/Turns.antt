@@ -12,10 +12,10 @@ use Rattle.std.specs.declared.result.Result.the-variants.{Ok, Err}
 use Rattle.std.proofs.shelf.Lists.{append-nil, append-assoc}
 use Rattle.std.proofs.shelf.Tests.{leb-false}
 use Rattle.protocol.specs.declared.turn.Turn.{Turn}
-use Rattle.runfile.specs.Lines.{turnLine, loomLine}
+use Rattle.lines.specs.Lines.{turnLine, loomLine}
 use Rattle.runfile.specs.Files.{Place, afterLoom, firstLine, nextTurn, turnAt, afterTurn, moved, before, goOn, turnsFrom}
 use Rattle.runfile.specs.Readers.{numbered}
-use Rattle.runfile.specs.declared.loom.Loom.{Loom}
+use Rattle.lines.specs.declared.loom.Loom.{Loom}
 use Rattle.runfile.specs.declared.reader.TurnLine.{TurnLine}
 use Rattle.runfile.specs.declared.refusal.Refusal.{Refusal}
 use Rattle.runfile.specs.declared.refusal.Refusal.the-variants.{TooManyTurns}

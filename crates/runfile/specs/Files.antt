@@ -9,8 +9,8 @@ use Rattle.std.specs.declared.option.Option.the-variants.{Some, None}
 use Rattle.std.specs.declared.result.Result.{Result}
 use Rattle.std.specs.declared.result.Result.the-variants.{Ok, Err}
 use Rattle.protocol.specs.declared.turn.Turn.{Turn}
-use Rattle.runfile.specs.Lines.{turnLine, loomLine}
-use Rattle.runfile.specs.declared.loom.Loom.{Loom}
+use Rattle.lines.specs.Lines.{turnLine, loomLine}
+use Rattle.lines.specs.declared.loom.Loom.{Loom}
 use Rattle.runfile.specs.declared.refusal.Refusal.{Refusal}
 use Rattle.runfile.specs.declared.refusal.Refusal.the-variants.{TooLong, BadFirstLine, BadTurn, TooManyTurns}
 

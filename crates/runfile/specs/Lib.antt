@@ -1,5 +1,2 @@
-pub mod Numbers
-pub mod Lines
 pub mod Files
-pub mod Spelling
 pub mod Readers

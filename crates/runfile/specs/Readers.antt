@@ -13,10 +13,10 @@ use Rattle.std.specs.declared.option.Option.the-variants.{Some, None}
 use Rattle.std.specs.declared.result.Result.{Result}
 use Rattle.std.specs.declared.result.Result.the-variants.{Ok, Err}
 use Rattle.protocol.specs.declared.turn.Turn.{Turn}
-use Rattle.runfile.specs.declared.loom.Loom.{Loom}
+use Rattle.lines.specs.declared.loom.Loom.{Loom}
 use Rattle.runfile.specs.declared.refusal.Refusal.{Refusal}
 use Rattle.runfile.specs.Files.{Place}
-use Rattle.runfile.specs.Spelling.{spellFile, FitLoom, FitTurn, SpelledBy}
+use Rattle.lines.specs.Spelling.{spellFile, FitLoom, FitTurn, SpelledBy}
 use Rattle.runfile.specs.declared.file.ReadError.{ReadError}
 use Rattle.runfile.specs.declared.file.ReadError.the-variants.{Refused, NoMemory}
 use Rattle.runfile.specs.declared.file.RunFile.{RunFile}

@@ -3,7 +3,7 @@ ghost use mathlib.Core.Path.{_≡_};
 ghost use Rattle.runfile.specs.Files.{fileOf, turnsFrom, numberOf, lineOf};
 ghost use Rattle.runfile.specs.Readers.{place, Read, ReadTurns, ReadsBack, Spelled};
 ghost use Rattle.runfile.specs.declared.file.ReadError.the-variants.{Refused as IsRefused, NoMemory as IsNoMemory};
-use crate::loom::Loom;
+use lines::loom::Loom;
 use crate::reader::FileReader;
 use crate::reader::TurnReader;
 use crate::refusal::Refusal;

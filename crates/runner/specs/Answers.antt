@@ -8,11 +8,11 @@ use Rattle.std.specs.declared.result.Result.{Result}
 use Rattle.std.specs.declared.result.Result.the-variants.{Ok, Err}
 use Rattle.protocol.specs.declared.turn.Turn.{Turn}
 use Rattle.runfile.specs.Files.{numberOf, lineOf}
-use Rattle.runfile.specs.declared.loom.StoreKind.{StoreKind}
-use Rattle.runfile.specs.declared.loom.StoreKind.the-variants.{Slots, Journal}
-use Rattle.runfile.specs.declared.loom.PartKind.{PartKind}
-use Rattle.runfile.specs.declared.loom.PartKind.the-variants.{Harness, Feed}
-use Rattle.runfile.specs.declared.loom.Loom.{Loom}
+use Rattle.lines.specs.declared.loom.StoreKind.{StoreKind}
+use Rattle.lines.specs.declared.loom.StoreKind.the-variants.{Slots, Journal}
+use Rattle.lines.specs.declared.loom.PartKind.{PartKind}
+use Rattle.lines.specs.declared.loom.PartKind.the-variants.{Harness, Feed}
+use Rattle.lines.specs.declared.loom.Loom.{Loom}
 use Rattle.runfile.specs.declared.refusal.Refusal.{Refusal}
 
 abbrev pub partName : PartKind → List ℕ

@@ -8,9 +8,9 @@ ghost use Rattle.runner.specs.Answers.{partName, summary, refusalLine, answerT
 use runfile::file::ReadError;
 use runfile::file::RunFile;
 use runfile::file::read;
-use runfile::loom::Loom;
-use runfile::loom::PartKind;
-use runfile::loom::StoreKind;
+use lines::loom::Loom;
+use lines::loom::PartKind;
+use lines::loom::StoreKind;
 use runfile::refusal::Refusal;
 use std::alloc::AllocError;
 use std::alloc::Global;

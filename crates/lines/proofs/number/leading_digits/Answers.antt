@@ -3,8 +3,8 @@ use mathlib.Core.Bool.{true, false}
 use Prim.Native.Nat.{ℕ, _+_}
 use native.Mathlib.Omega.{arith}
 use borrow.Author.Needs.{needs}
-use Rattle.runfile.proofs.Numbers.{Sofar, sofar-more, sofar-over, ends-at-other, ends-at-last}
-use Rattle.runfile.proofs.number.leading_digits.Needs as need
+use Rattle.lines.proofs.Numbers.{Sofar, sofar-more, sofar-over, ends-at-other, ends-at-last}
+use Rattle.lines.proofs.number.leading_digits.Needs as need
 
 pub returns-in-Break-value : need.returns-in-Break-value
 returns-in-Break-value c =

@@ -13,9 +13,9 @@ use Rattle.std.proofs.shelf.Lists.{append-assoc}
 use Rattle.std.proofs.shelf.Tests.{eqb-true}
 use Rattle.protocol.specs.declared.turn.Turn.{Turn}
 use Rattle.protocol.specs.declared.turn.Turn.the-variants.{Work, Send, Deliver, Checkpoint, Rollback, Stop, Restart, SetWilling}
-use Rattle.runfile.specs.Lines.{andThen, byte, field, oneField, twoFields, threeFields, made, turnBy, turnLine}
-use Rattle.runfile.specs.Spelling.{spellField, spellFields, letterOf, fieldsOf, spellTurn, FitTurn}
-use Rattle.runfile.proofs.Spelling.{then-was, then-some, byte-spelled, byte-was, field-spelled, field-was}
+use Rattle.lines.specs.Lines.{andThen, byte, field, oneField, twoFields, threeFields, made, turnBy, turnLine}
+use Rattle.lines.specs.Spelling.{spellField, spellFields, letterOf, fieldsOf, spellTurn, FitTurn}
+use Rattle.lines.proofs.Spelling.{then-was, then-some, byte-spelled, byte-was, field-spelled, field-was}
 
 -- numbers below 2^32
 abbrev Small : List ℕ → Type 0

@@ -2,8 +2,8 @@
 // the bytes from where its piece should stand, and gives the piece and the bytes after it.
 ghost use mathlib.Core.Path.{_≡_};
 ghost use Rattle.std.specs.Options.{mapped};
-ghost use Rattle.runfile.specs.Lines.{byte, field, oneField, twoFields, threeFields};
-ghost use Rattle.runfile.specs.Numbers.{seen};
+ghost use Rattle.lines.specs.Lines.{byte, field, oneField, twoFields, threeFields};
+ghost use Rattle.lines.specs.Numbers.{seen};
 use crate::number::number_at;
 
 // The bytes after the one that is wanted.

@@ -1,8 +1,8 @@
 // Turn lines: the first letter says which turn it is.
 ghost use mathlib.Core.Path.{_≡_};
 ghost use Rattle.std.specs.Options.{mapped};
-ghost use Rattle.runfile.specs.Lines.{turnBy, turnLine};
-ghost use Rattle.runfile.specs.Numbers.{seen};
+ghost use Rattle.lines.specs.Lines.{turnBy, turnLine};
+ghost use Rattle.lines.specs.Numbers.{seen};
 use crate::line::one_field;
 use crate::line::three_fields;
 use crate::line::two_fields;

@@ -2,8 +2,8 @@
 ghost use mathlib.Core.Path.{_≡_};
 ghost use lib.Chars.{codes};
 ghost use Rattle.std.specs.Options.{mapped};
-ghost use Rattle.runfile.specs.Lines.{text, letterField, storeOf, partOf, loomOf, loomLine};
-ghost use Rattle.runfile.specs.Numbers.{seen};
+ghost use Rattle.lines.specs.Lines.{text, letterField, storeOf, partOf, loomOf, loomLine};
+ghost use Rattle.lines.specs.Numbers.{seen};
 use crate::line::after_byte;
 use crate::line::field_at;
 use crate::loom::Loom;

@@ -13,7 +13,7 @@ use Rattle.std.specs.declared.option.Option.{Option}
 use Rattle.std.specs.declared.option.Option.the-variants.{Some, None}
 use Rattle.std.proofs.shelf.Lists.{append-nil, append-assoc, drop-more, take-more, at-drop-more, at-drop-all, drop-all}
 use Rattle.std.proofs.shelf.Tests.{cond-true, cond-false, le-ltb, lt-ltb, and-left, and-right, and-from}
-use Rattle.runfile.specs.Numbers.{digits, afterDigits, valueFrom, plain, isNumber, number, Leading}
+use Rattle.lines.specs.Numbers.{digits, afterDigits, valueFrom, plain, isNumber, number, Leading}
 
 -- the first n bytes are digits, and v is what they write
 pub record Sofar (bs : List ℕ) (v n : ℕ) : Type 0 where

@@ -16,9 +16,9 @@ use Rattle.std.proofs.shelf.Decimals.{digits-decimal, value-decimal, decimal-va
 use Rattle.std.proofs.shelf.Numerals.{Numerals, numerals-by-fold, tells-allDigits}
 use Rattle.std.proofs.shelf.Lists.{append-nil, append-assoc}
 use Rattle.std.proofs.shelf.Tests.{cond-true, cond-false, lt-ltb, ltb-true, and-from, and-parts, ne-eqb, eqb-true, eqb-false, not-true, not-from-false, eq-eqb}
-use Rattle.runfile.specs.Lines.{andThen, byte, field}
-use Rattle.runfile.specs.Spelling.{spellField}
-use Rattle.runfile.specs.Numbers.{digits, afterDigits, valueFrom, plain, isNumber, number}
+use Rattle.lines.specs.Lines.{andThen, byte, field}
+use Rattle.lines.specs.Spelling.{spellField}
+use Rattle.lines.specs.Numbers.{digits, afterDigits, valueFrom, plain, isNumber, number}
 
 own : Numerals (λ ds. allDigits ds ≡ true) (valueFrom 0)
 own = numerals-by-fold _ tells-allDigits valueFrom (search needs)

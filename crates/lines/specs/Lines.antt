@@ -8,12 +8,12 @@ use Rattle.std.specs.declared.option.Option.{Option}
 use Rattle.std.specs.declared.option.Option.the-variants.{Some, None}
 use Rattle.protocol.specs.declared.turn.Turn.{Turn}
 use Rattle.protocol.specs.declared.turn.Turn.the-variants.{Work, Send, Deliver, Checkpoint, Rollback, Stop, Restart, SetWilling}
-use Rattle.runfile.specs.Numbers.{number}
-use Rattle.runfile.specs.declared.loom.StoreKind.{StoreKind}
-use Rattle.runfile.specs.declared.loom.StoreKind.the-variants.{Slots, Journal}
-use Rattle.runfile.specs.declared.loom.PartKind.{PartKind}
-use Rattle.runfile.specs.declared.loom.PartKind.the-variants.{Harness, Feed}
-use Rattle.runfile.specs.declared.loom.Loom.{Loom}
+use Rattle.lines.specs.Numbers.{number}
+use Rattle.lines.specs.declared.loom.StoreKind.{StoreKind}
+use Rattle.lines.specs.declared.loom.StoreKind.the-variants.{Slots, Journal}
+use Rattle.lines.specs.declared.loom.PartKind.{PartKind}
+use Rattle.lines.specs.declared.loom.PartKind.the-variants.{Harness, Feed}
+use Rattle.lines.specs.declared.loom.Loom.{Loom}
 
 -- what follows, where there was something to follow
 abbrev pub andThen : {A B : Type 0} → Option A → (A → Option B) → Option B

@@ -9,11 +9,11 @@ use Rattle.std.specs.Written.{decimal}
 use Rattle.std.specs.shelf.Lists.{All}
 use Rattle.protocol.specs.declared.turn.Turn.{Turn}
 use Rattle.protocol.specs.declared.turn.Turn.the-variants.{Work, Send, Deliver, Checkpoint, Rollback, Stop, Restart, SetWilling}
-use Rattle.runfile.specs.declared.loom.StoreKind.{StoreKind}
-use Rattle.runfile.specs.declared.loom.StoreKind.the-variants.{Slots, Journal}
-use Rattle.runfile.specs.declared.loom.PartKind.{PartKind}
-use Rattle.runfile.specs.declared.loom.PartKind.the-variants.{Harness, Feed}
-use Rattle.runfile.specs.declared.loom.Loom.{Loom}
+use Rattle.lines.specs.declared.loom.StoreKind.{StoreKind}
+use Rattle.lines.specs.declared.loom.StoreKind.the-variants.{Slots, Journal}
+use Rattle.lines.specs.declared.loom.PartKind.{PartKind}
+use Rattle.lines.specs.declared.loom.PartKind.the-variants.{Harness, Feed}
+use Rattle.lines.specs.declared.loom.Loom.{Loom}
 
 -- a space and a number
 abbrev pub spellField : ℕ → List ℕ

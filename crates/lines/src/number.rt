@@ -4,7 +4,7 @@ ghost use Prim.Native.Nat.{_+_, _-_, _*_, _^_, _≤_, _<_};
 ghost use lib.ListN.{length};
 ghost use Rattle.std.specs.Numbers.{Checked};
 ghost use Rattle.std.specs.Options.{mapped, Cases};
-ghost use Rattle.runfile.specs.Numbers.{number, seen, plain, valueFrom, digits, Leading};
+ghost use Rattle.lines.specs.Numbers.{number, seen, plain, valueFrom, digits, Leading};
 
 // One digit more at the end of a number, where that stays below 2^32.
 fn with_digit(value: u32, digit: u8) -> Option<u32>

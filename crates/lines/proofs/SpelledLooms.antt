@@ -10,15 +10,15 @@ use Rattle.std.specs.declared.option.Option.{Option}
 use Rattle.std.specs.declared.option.Option.the-variants.{Some, None}
 use Rattle.std.proofs.shelf.Lists.{append-assoc}
 use Rattle.std.proofs.shelf.Tests.{eqb-true, leb-true, le-leb, and-from, and-parts, cond-true}
-use Rattle.runfile.specs.Lines.{andThen, byte, field, text, first, letterField, storeOf, partOf, loomOf, loomLine}
-use Rattle.runfile.specs.Spelling.{spellField, storeLetter, placesOf, partLetter, spellLoom, FitStore, FitLoom}
-use Rattle.runfile.specs.declared.loom.StoreKind.{StoreKind}
-use Rattle.runfile.specs.declared.loom.StoreKind.the-variants.{Slots, Journal}
-use Rattle.runfile.specs.declared.loom.PartKind.{PartKind}
-use Rattle.runfile.specs.declared.loom.PartKind.the-variants.{Harness, Feed}
-use Rattle.runfile.specs.declared.loom.Loom.{Loom}
-use Rattle.runfile.proofs.Spelling.{then-was, then-some, byte-spelled, byte-was, field-spelled, field-was}
-use Rattle.runfile.proofs.SpelledLines.{some-same, cond-was}
+use Rattle.lines.specs.Lines.{andThen, byte, field, text, first, letterField, storeOf, partOf, loomOf, loomLine}
+use Rattle.lines.specs.Spelling.{spellField, storeLetter, placesOf, partLetter, spellLoom, FitStore, FitLoom}
+use Rattle.lines.specs.declared.loom.StoreKind.{StoreKind}
+use Rattle.lines.specs.declared.loom.StoreKind.the-variants.{Slots, Journal}
+use Rattle.lines.specs.declared.loom.PartKind.{PartKind}
+use Rattle.lines.specs.declared.loom.PartKind.the-variants.{Harness, Feed}
+use Rattle.lines.specs.declared.loom.Loom.{Loom}
+use Rattle.lines.proofs.Spelling.{then-was, then-some, byte-spelled, byte-was, field-spelled, field-was}
+use Rattle.lines.proofs.SpelledLines.{some-same, cond-was}
 
 -- a word of fixed bytes
 text-spelled : (w rest : List ℕ) → text w (w ++ rest) ≡ Some rest

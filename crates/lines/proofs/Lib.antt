@@ -1,0 +1,4 @@
+pub mod Numbers
+pub mod Spelling
+pub mod SpelledLines
+pub mod SpelledLooms
