@@ -35,9 +35,10 @@ pub sofar-more : (bs : List ℕ) (v n : ℕ) → Sofar bs v n → n < length bs 
 sofar-more bs v n s h d = record {
   within = omega arith;
   front = s .front ∙ ap (λ ds. take n bs ++ ds) (digits-more bs n h d) ∙ sym (append-assoc (take n bs) (getD bs n 0 ∷ []) (digits (drop (n + 1) bs)))
-    ∙ ap (λ xs. xs ++ digits (drop (n + 1) bs)) (sym (take-more bs n 0 h));
+      ∙ ap (λ xs. xs ++ digits (drop (n + 1) bs)) (sym (take-more bs n 0 h));
   after = s .after ∙ after-more bs n h d;
-  value = s .value ∙ ap (valueFrom v) (digits-more bs n h d) }
+  value = s .value ∙ ap (valueFrom v) (digits-more bs n h d);
+}
 
 -- a number only grows with its digits
 value-ge : (v : ℕ) (ds : List ℕ) → v ≤ valueFrom v ds
@@ -46,12 +47,12 @@ value-ge v (c ∷ cs) = let h = value-ge (v * 10 + (c - 48)) cs in omega arith
 
 -- where one digit more passes the bound, all the digits do
 pub sofar-over : (bs : List ℕ) (v n : ℕ) → Sofar bs v n → n < length bs → asciiDigit (getD bs n 0) ≡ true
-  → (v * 10 + (getD bs n 0 - 48) < 2 ^ 32 → ⊥) → 2 ^ 32 ≤ valueFrom 0 (digits bs)
+    → (v * 10 + (getD bs n 0 - 48) < 2 ^ 32 → ⊥) → 2 ^ 32 ≤ valueFrom 0 (digits bs)
 sofar-over bs v n s h d over =
-  let w : ℕ = v * 10 + (getD bs n 0 - 48) in
-  let more : Sofar bs w (n + 1) = sofar-more bs v n s h d in
-  let grown : w ≤ valueFrom w (digits (drop (n + 1) bs)) = value-ge w (digits (drop (n + 1) bs)) in
-  omega (arith, more .value, over)
+    let w : ℕ = v * 10 + (getD bs n 0 - 48) in
+    let more : Sofar bs w (n + 1) = sofar-more bs v n s h d in
+    let grown : w ≤ valueFrom w (digits (drop (n + 1) bs)) = value-ge w (digits (drop (n + 1) bs)) in
+    omega (arith, more .value, over)
 
 leading-by : (bs : List ℕ) (v n : ℕ) → Sofar bs v n → v < 2 ^ 32 → digits (drop n bs) ≡ [] → afterDigits (drop n bs) ≡ drop n bs → Leading bs v n
 leading-by bs v n s small d a = record {
@@ -59,17 +60,18 @@ leading-by bs v n s small d a = record {
   front = s .front ∙ ap (λ ds. take n bs ++ ds) d ∙ append-nil (take n bs);
   after = s .after ∙ a;
   value = s .value ∙ ap (valueFrom v) d;
-  small = small }
+  small = small;
+}
 
 -- the digits end at another byte, or with the list
 pub ends-at-other : (bs : List ℕ) (v n : ℕ) → Sofar bs v n → v < 2 ^ 32 → n < length bs → asciiDigit (getD bs n 0) ≡ false → Leading bs v n
 ends-at-other bs v n s small h d =
-  leading-by bs v n s small (at-drop-more digits bs n 0 h ∙ cond-false _ _ _ d)
+    leading-by bs v n s small (at-drop-more digits bs n 0 h ∙ cond-false _ _ _ d)
     (at-drop-more afterDigits bs n 0 h ∙ cond-false _ _ _ d ∙ sym (drop-more bs n 0 h))
 
 pub ends-at-last : (bs : List ℕ) (v n : ℕ) → Sofar bs v n → v < 2 ^ 32 → length bs ≤ n → Leading bs v n
 ends-at-last bs v n s small h =
-  leading-by bs v n s small (at-drop-all digits bs n h) (at-drop-all afterDigits bs n h ∙ sym (drop-all n bs h))
+    leading-by bs v n s small (at-drop-all digits bs n h) (at-drop-all afterDigits bs n h ∙ sym (drop-all n bs h))
 
 -- the number, by its leading digits
 pub number-over : (bs : List ℕ) → 2 ^ 32 ≤ valueFrom 0 (digits bs) → number bs ≡ None

@@ -46,15 +46,15 @@ made f x = andThen x (λ a. Some (f (a .0), a .1))
 -- the turn that a letter begins: W, S, D, C, R, X, U, N
 abbrev pub turnBy : ℕ → List ℕ → Option (Turn × List ℕ)
 turnBy letter bs =
-  cond (eqb letter 87) (made (λ a. Work (a .0) (a .1)) (twoFields bs))
-  (cond (eqb letter 83) (made (λ a. Send (a .0) (a .1) (a .2)) (threeFields bs))
-  (cond (eqb letter 68) (made (λ a. Deliver (a .0) (a .1)) (twoFields bs))
-  (cond (eqb letter 67) (made Checkpoint (oneField bs))
-  (cond (eqb letter 82) (made Rollback (oneField bs))
-  (cond (eqb letter 88) (made Stop (oneField bs))
-  (cond (eqb letter 85) (made Restart (oneField bs))
-  (cond (eqb letter 78) (made (λ a. SetWilling (a .0) (a .1)) (twoFields bs))
-  None)))))))
+    cond (eqb letter 87) (made (λ a. Work (a .0) (a .1)) (twoFields bs))
+    (cond (eqb letter 83) (made (λ a. Send (a .0) (a .1) (a .2)) (threeFields bs))
+    (cond (eqb letter 68) (made (λ a. Deliver (a .0) (a .1)) (twoFields bs))
+    (cond (eqb letter 67) (made Checkpoint (oneField bs))
+    (cond (eqb letter 82) (made Rollback (oneField bs))
+    (cond (eqb letter 88) (made Stop (oneField bs))
+    (cond (eqb letter 85) (made Restart (oneField bs))
+    (cond (eqb letter 78) (made (λ a. SetWilling (a .0) (a .1)) (twoFields bs))
+    None)))))))
 
 abbrev pub turnLine : List ℕ → Option (Turn × List ℕ)
 turnLine [] = None
@@ -76,9 +76,9 @@ letterField bs = andThen (byte 32 bs) first
 -- the store: S with 0 places, or J with at least as many as boards and at most 1,024
 abbrev pub storeOf : ℕ → ℕ → ℕ → Option StoreKind
 storeOf boards letter places =
-  cond (eqb letter 83) (cond (eqb places 0) (Some Slots) None)
-  (cond (eqb letter 74) (cond (leb boards places && leb places 1024) (Some (Journal places)) None)
-  None)
+    cond (eqb letter 83) (cond (eqb places 0) (Some Slots) None)
+    (cond (eqb letter 74) (cond (leb boards places && leb places 1024) (Some (Journal places)) None)
+    None)
 
 -- the kind of record: H or F
 abbrev pub partOf : ℕ → Option PartKind
@@ -87,17 +87,17 @@ partOf letter = cond (eqb letter 72) (Some Harness) (cond (eqb letter 70) (Some 
 -- 1 to 19 boards, with a store and a kind of record
 abbrev pub loomOf : ℕ → ℕ → ℕ → ℕ → Option Loom
 loomOf n s e k =
-  cond (leb 1 n && leb n 19)
+    cond (leb 1 n && leb n 19)
     (andThen (storeOf n s e) (λ store. andThen (partOf k) (λ part. Some (record { boards = n; store = store; part = part }))))
     None
 
 -- LOOM n s e k
 abbrev pub loomLine : List ℕ → Option (Loom × List ℕ)
 loomLine bs =
-  andThen (text (codes "LOOM") bs) (λ bs.
-  andThen (field bs) (λ n.
-  andThen (letterField (n .1)) (λ s.
-  andThen (field (s .1)) (λ e.
-  andThen (letterField (e .1)) (λ k.
-  andThen (byte 10 (k .1)) (λ rest.
-  andThen (loomOf (n .0) (s .0) (e .0) (k .0)) (λ loom. Some (loom, rest))))))))
+    andThen (text (codes "LOOM") bs) (λ bs.
+    andThen (field bs) (λ n.
+    andThen (letterField (n .1)) (λ s.
+    andThen (field (s .1)) (λ e.
+    andThen (letterField (e .1)) (λ k.
+    andThen (byte 10 (k .1)) (λ rest.
+    andThen (loomOf (n .0) (s .0) (e .0) (k .0)) (λ loom. Some (loom, rest))))))))

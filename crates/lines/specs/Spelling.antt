@@ -65,8 +65,8 @@ partLetter Feed = 70
 -- LOOM n s e k
 abbrev pub spellLoom : Loom → List ℕ
 spellLoom loom =
-  codes "LOOM" ++ (spellField (loom .boards) ++ (32 ∷ storeLetter (loom .store) ∷ (spellField (placesOf (loom .store))
-  ++ (32 ∷ partLetter (loom .part) ∷ (10 ∷ [])))))
+    codes "LOOM" ++ (spellField (loom .boards) ++ (32 ∷ storeLetter (loom .store) ∷ (spellField (placesOf (loom .store))
+    ++ (32 ∷ partLetter (loom .part) ∷ (10 ∷ [])))))
 
 abbrev pub spellFile : Loom → List Turn → List ℕ
 spellFile loom turns = spellLoom loom ++ joined spellTurn turns

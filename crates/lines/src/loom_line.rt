@@ -11,6 +11,7 @@ use crate::loom::PartKind;
 use crate::loom::StoreKind;
 
 const MAX_BOARDS: u32 = 19;
+
 const MAX_PLACES: u32 = 1024;
 
 // The bytes after the word that begins the line.
@@ -56,7 +57,11 @@ fn loom_of(boards: u32, store: char, places: u32, part: char) -> Option<Loom>
     }
     let store = store_of(boards, store, places)?;
     let part = part_of(part)?;
-    Some(Loom { boards, store, part })
+    Some(Loom {
+        boards,
+        store,
+        part,
+    })
 }
 
 // The loom of the line that the bytes begin with, and the bytes after the line.

@@ -47,5 +47,9 @@ pub fn number_at(bytes: &[u8]) -> Option<(u32, &[u8])>
 {
     let (value, len) = leading_digits(bytes)?;
     let (digits, rest) = bytes.split_at(len);
-    if is_plain(digits) { Some((value, rest)) } else { None }
+    if is_plain(digits) {
+        Some((value, rest))
+    } else {
+        None
+    }
 }

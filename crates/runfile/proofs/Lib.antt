@@ -1,2 +1,3 @@
+pub mod Next
 pub mod Turns
 pub mod SpelledFiles

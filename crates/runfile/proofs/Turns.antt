@@ -15,14 +15,11 @@ use Rattle.protocol.specs.declared.turn.Turn.{Turn}
 use Rattle.lines.specs.Lines.{turnLine, loomLine}
 use Rattle.runfile.specs.Files.{Place, afterLoom, firstLine, nextTurn, turnAt, afterTurn, moved, before, goOn, turnsFrom}
 use Rattle.runfile.specs.Readers.{numbered}
+use Rattle.runfile.proofs.Next.{Next, err-not-ok, none-not-turn, next-was}
 use Rattle.lines.specs.declared.loom.Loom.{Loom}
 use Rattle.runfile.specs.declared.reader.TurnLine.{TurnLine}
 use Rattle.runfile.specs.declared.refusal.Refusal.{Refusal}
 use Rattle.runfile.specs.declared.refusal.Refusal.the-variants.{TooManyTurns}
-
--- what asking for a turn gave
-abbrev pub Next : Type 0
-Next = Result (Option (Turn × Place)) Refusal
 
 -- all turns, by the next one
 turns-by : (m : ℕ) (at : Place) → (more : Place → Result (List Turn) Refusal) × (turnsFrom m at ≡ goOn (nextTurn at) more)
@@ -39,18 +36,6 @@ turns-err m at f e = let t = turns-by m at in t .1 ∙ ap (λ n. goOn n (t .0)) 
 pub turns-some : (m : ℕ) (at : Place) (x : Turn × Place) → nextTurn at ≡ Ok (Some x) → turnsFrom (suc m) at ≡ before (x .0) (turnsFrom m (x .1))
 unfolding turnsFrom
 turns-some m at x e = ap (λ n. goOn n (turnsFrom m)) e
-
--- a turn stands in a line up to 4,097, and the next one begins a line further on
-after-line : (line : ℕ) (o : Option (Turn × List ℕ)) (x : Turn × Place) → afterTurn line o ≡ Ok (Some x) → x .1 .line ≡ line + 1
-after-line line None x e = absurd (let z : _≡_ {A = ℕ} 0 1 = cc in omega arith)
-after-line line (Some y) x e = let same : _≡_ {A = Turn × Place} (y .0, record { rest = y .1; line = line + 1 }) x = cc in ap (λ z. z .1 .line) (sym same)
-
-turn-line : (line : ℕ) (bs : List ℕ) (x : Turn × Place) → turnAt line bs ≡ Ok (Some x) → (line < 4098) × (x .1 .line ≡ line + 1)
-turn-line line [] x e = absurd (let z : _≡_ {A = ℕ} 0 1 = cc in omega arith)
-turn-line line (c ∷ cs) x e = go (leb 4098 line) refl e where
-  go : (b : Bool) → leb 4098 line ≡ b → cond b (Err (TooManyTurns line)) (afterTurn line (turnLine (c ∷ cs))) ≡ Ok (Some x) → (line < 4098) × (x .1 .line ≡ line + 1)
-  go true l e = absurd (let z : _≡_ {A = ℕ} 0 1 = cc in omega arith)
-  go false l e = (leb-false 4098 line l, after-line line (turnLine (c ∷ cs)) x e)
 
 -- the turns that were read, before all that follow
 abbrev pub prefixed : List Turn → Result (List Turn) Refusal → Result (List Turn) Refusal
@@ -73,54 +58,58 @@ halfway-none start e = record { few = omega (arith, e); whole = nothing (turnsFr
   nothing (Err f) = refl
 
 pub halfway-more : (start : Place) (ts : List Turn) (at : Place) (x : Turn × Place) → Halfway start ts at → nextTurn at ≡ Ok (Some x)
-  → (at .line < 4098) × Halfway start (ts ++ x .0 ∷ []) (x .1)
+    → (at .line < 4098) × Halfway start (ts ++ x .0 ∷ []) (x .1)
 halfway-more start ts at x h e =
-  let l = turn-line (at .line) (at .rest) x e in
-  let one-less : 4098 - at .line ≡ suc (4098 - x .1 .line) = omega (arith, l .0, l .1) in
-  (l .0, record {
-    few = omega (arith, l .0, l .1);
-    whole = sym (ap (prefixed ts) (ap (λ m. turnsFrom m at) one-less ∙ turns-some (4098 - x .1 .line) at x e)
-      ∙ prefixed-before ts (x .0) (turnsFrom (4098 - x .1 .line) (x .1))) ∙ h .whole })
+    let l = next-was (at .line) (at .rest) x e in
+    let one-less : 4098 - at .line ≡ suc (4098 - x .1 .line) = omega (arith, l .1, l .0 .further) in (
+      l .1,
+      record {
+        few = omega (arith, l .1, l .0 .further);
+        whole = sym (ap (prefixed ts) (ap (λ m. turnsFrom m at) one-less ∙ turns-some (4098 - x .1 .line) at x e)
+            ∙ prefixed-before ts (x .0) (turnsFrom (4098 - x .1 .line) (x .1))) ∙ h .whole;
+      },
+    )
 
 pub halfway-end : (start : Place) (ts : List Turn) (at : Place) → Halfway start ts at → nextTurn at ≡ Ok None → turnsFrom 4096 start ≡ Ok ts
 halfway-end start ts at h e =
-  sym (h .whole) ∙ ap (prefixed ts) (turns-none (4098 - at .line) at e) ∙ ap Ok (append-nil ts)
+    sym (h .whole) ∙ ap (prefixed ts) (turns-none (4098 - at .line) at e) ∙ ap Ok (append-nil ts)
 
 pub halfway-err : (start : Place) (ts : List Turn) (at : Place) (f : Refusal) → Halfway start ts at → nextTurn at ≡ Err f → turnsFrom 4096 start ≡ Err f
 halfway-err start ts at f h e = sym (h .whole) ∙ ap (prefixed ts) (turns-err (4098 - at .line) at f e)
 
 -- what the reader answered, undone
 pub from-some : (line : ℕ) (n : Next) (t : TurnLine) → Ok (Some t) ≡ numbered line n → (x : Turn × Place) × ((n ≡ Ok (Some x)) × (t .turn ≡ x .0))
-from-some line (Ok None) t e = absurd (let z : _≡_ {A = ℕ} 0 1 = cc in omega arith)
+from-some line (Ok None) t e = absurd (none-not-turn (sym e))
 from-some line (Ok (Some x)) t e = (x, (refl, (let same : _≡_ {A = TurnLine} t (record { line = line; turn = x .0 }) = cc in ap (λ z. z .turn) same)))
-from-some line (Err f) t e = absurd (let z : _≡_ {A = ℕ} 0 1 = cc in omega arith)
+from-some line (Err f) t e = absurd (err-not-ok (sym e))
 
 pub from-none : (line : ℕ) (n : Next) → Ok None ≡ numbered line n → n ≡ Ok None
 from-none line (Ok None) e = refl
-from-none line (Ok (Some x)) e = absurd (let z : _≡_ {A = ℕ} 0 1 = cc in omega arith)
-from-none line (Err f) e = absurd (let z : _≡_ {A = ℕ} 0 1 = cc in omega arith)
+from-none line (Ok (Some x)) e = absurd (none-not-turn e)
+from-none line (Err f) e = absurd (err-not-ok (sym e))
 
 pub from-err : (line : ℕ) (n : Next) (f : Refusal) → Err f ≡ numbered line n → n ≡ Err f
-from-err line (Ok None) f e = absurd (let z : _≡_ {A = ℕ} 0 1 = cc in omega arith)
-from-err line (Ok (Some x)) f e = absurd (let z : _≡_ {A = ℕ} 0 1 = cc in omega arith)
+from-err line (Ok None) f e = absurd (err-not-ok e)
+from-err line (Ok (Some x)) f e = absurd (err-not-ok e)
 from-err line (Err g) f e = let same : _≡_ {A = Refusal} g f = cc in ap Err same
 
 -- one turn of the loop, by what the reader answered and where it then stands
 pub step : (start : Place) (ts : List Turn) (at to : Place) (t : TurnLine) → Halfway start ts at → Ok (Some t) ≡ numbered (at .line) (nextTurn at)
-  → to ≡ moved at (nextTurn at) → (4098 - to .line < 4098 - at .line) × Halfway start (ts ++ t .turn ∷ []) to
+    → to ≡ moved at (nextTurn at) → (4098 - to .line < 4098 - at .line) × Halfway start (ts ++ t .turn ∷ []) to
 step start ts at to t h answer after =
-  let x = from-some (at .line) (nextTurn at) t answer in
-  let more = halfway-more start ts at (x .0) h (x .1 .0) in
-  let here : to ≡ x .0 .1 = after ∙ ap (moved at) (x .1 .0) in
-  let l = turn-line (at .line) (at .rest) (x .0) (x .1 .0) in
-  let further : to .line ≡ at .line + 1 = ap (λ p. p .line) here ∙ l .1 in
-  (omega (arith, l .0, further),
-    subst (λ (p : Place). Halfway start (ts ++ t .turn ∷ []) p) (sym here)
-      (subst (λ (u : Turn). Halfway start (ts ++ u ∷ []) (x .0 .1)) (sym (x .1 .1)) (more .1)))
+    let x = from-some (at .line) (nextTurn at) t answer in
+    let more = halfway-more start ts at (x .0) h (x .1 .0) in
+    let here : to ≡ x .0 .1 = after ∙ ap (moved at) (x .1 .0) in
+    let l = next-was (at .line) (at .rest) (x .0) (x .1 .0) in
+    let further : to .line ≡ at .line + 1 = ap (λ p. p .line) here ∙ l .0 .further in (
+      omega (arith, l .1, further),
+      subst (λ (p : Place). Halfway start (ts ++ t .turn ∷ []) p) (sym here)
+          (subst (λ (u : Turn). Halfway start (ts ++ u ∷ []) (x .0 .1)) (sym (x .1 .1)) (more .1)),
+    )
 
 -- the turns begin in line 2
 after-two : (o : Option (Loom × List ℕ)) (x : Loom × Place) → Ok x ≡ afterLoom o → x .1 .line ≡ 2
-after-two None x e = absurd (let z : _≡_ {A = ℕ} 0 1 = cc in omega arith)
+after-two None x e = absurd (err-not-ok (sym e))
 after-two (Some y) x e = let same : _≡_ {A = Loom × Place} x (y .0, record { rest = y .1; line = 2 }) = cc in ap (λ z. z .1 .line) same
 
 pub first-two : (bs : List ℕ) (x : Loom × Place) → Ok x ≡ firstLine bs → x .1 .line ≡ 2

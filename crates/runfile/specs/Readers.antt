@@ -53,8 +53,8 @@ Read r meant = Told (λ file. (file .loom, vec-items (file .turns))) r meant
 -- The laws of reading. What is spelled is read back: at most 4,096 turns in at most 32,768 bytes.
 abbrev pub ReadsBack : List ℕ → Result RunFile ReadError → Type 0
 ReadsBack bs r =
-  (loom : Loom) (turns : List Turn) → FitLoom loom → All FitTurn turns → length turns ≤ 4096 → length bs ≤ 32768
-  → bs ≡ spellFile loom turns → Read r (Ok (loom, turns))
+    (loom : Loom) (turns : List Turn) → FitLoom loom → All FitTurn turns → length turns ≤ 4096 → length bs ≤ 32768
+    → bs ≡ spellFile loom turns → Read r (Ok (loom, turns))
 
 -- What is read was spelled so, in just these bytes.
 abbrev pub Spelled : List ℕ → Result RunFile ReadError → Type 0

@@ -3,9 +3,9 @@
 ghost use mathlib.Core.Path.{_≡_};
 ghost use Rattle.runfile.specs.Files.{firstLine, nextTurn, moved};
 ghost use Rattle.runfile.specs.Readers.{place, numbered, opened};
+use crate::refusal::Refusal;
 use lines::loom::Loom;
 use lines::loom_line::loom_at;
-use crate::refusal::Refusal;
 use lines::turn_line::turn_at;
 use protocol::turn::Turn;
 use protocol::turn::TurnDebug;
@@ -83,20 +83,37 @@ mod tests {
 
     #[test]
     fn hands_out_turns_with_their_lines() -> Result<(), Fail> {
-        let (loom, mut turns) = FileReader::new(b"LOOM 3 J 40 F\nW 0 5\nS 2 1 9\nw 0 5\n").first_line()?;
+        let (loom, mut turns) = FileReader::new(
+            b"LOOM 3 J 40 F\nW 0 5\nS 2 1 9\nw 0 5\n",
+        ).first_line()?;
         check_eq(loom.boards, 3)?;
-        let work = TurnLine { line: 2, turn: Turn::Work { board: 0, word: 5 } };
+        let work = TurnLine {
+            line: 2,
+            turn: Turn::Work { board: 0, word: 5 },
+        };
         check_eq(turns.next_turn()?, Some(work))?;
-        let send = TurnLine { line: 3, turn: Turn::Send { from: 2, to: 1, word: 9 } };
+        let send = TurnLine {
+            line: 3,
+            turn: Turn::Send {
+                from: 2,
+                to: 1,
+                word: 9,
+            },
+        };
         check_eq(turns.next_turn()?, Some(send))?;
         check_eq(turns.next_turn(), Err(Refusal::BadTurn { line: 4 }))?;
-        check_eq(turns.next_turn(), Err(Refusal::BadTurn { line: 4 })).note("a refusal leaves the reader")
+        check_eq(turns.next_turn(), Err(Refusal::BadTurn { line: 4 })).note(
+            "a refusal leaves the reader",
+        )
     }
 
     #[test]
     fn ends_after_the_last_line() -> Result<(), Fail> {
         let (_, mut turns) = FileReader::new(b"LOOM 1 S 0 H\nC 0\n").first_line()?;
-        let save = TurnLine { line: 2, turn: Turn::Checkpoint { board: 0 } };
+        let save = TurnLine {
+            line: 2,
+            turn: Turn::Checkpoint { board: 0 },
+        };
         check_eq(turns.next_turn()?, Some(save))?;
         check_eq(turns.next_turn()?, None)?;
         check_eq(turns.next_turn()?, None)

@@ -27,8 +27,8 @@ storeName (Journal places) = codes "journal of " ++ (decimal places ++ codes " p
 -- what a file holds, in one line
 abbrev pub summary : Loom → ℕ → List ℕ
 summary loom turns =
-  decimal (loom .boards) ++ (codes " boards, " ++ (storeName (loom .store) ++ (codes ", " ++ (partName (loom .part)
-  ++ (codes " records, " ++ (decimal turns ++ codes " turns\n"))))))
+    decimal (loom .boards) ++ (codes " boards, " ++ (storeName (loom .store) ++ (codes ", " ++ (partName (loom .part)
+    ++ (codes " records, " ++ (decimal turns ++ codes " turns\n"))))))
 
 abbrev pub refusalLine : Refusal → List ℕ
 refusalLine e = codes "REFUSED " ++ (decimal (numberOf e) ++ (codes " " ++ (decimal (lineOf e) ++ codes "\n")))

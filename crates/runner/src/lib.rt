@@ -5,12 +5,12 @@ ghost use Rattle.std.specs.Of.Vec.{vec-items, vec-len};
 ghost use Rattle.std.specs.Vec.{made};
 ghost use Rattle.runfile.specs.Files.{fileOf};
 ghost use Rattle.runner.specs.Answers.{partName, summary, refusalLine, answerTo};
-use runfile::file::ReadError;
-use runfile::file::RunFile;
-use runfile::file::read;
 use lines::loom::Loom;
 use lines::loom::PartKind;
 use lines::loom::StoreKind;
+use runfile::file::ReadError;
+use runfile::file::RunFile;
+use runfile::file::read;
 use runfile::refusal::Refusal;
 use std::alloc::AllocError;
 use std::alloc::Global;
@@ -40,9 +40,15 @@ pub fn summary_line(heap: Global, loom: Loom, turns: usize) -> Result<String, Al
     let boards = loom.boards;
     let part = part_name(loom.part);
     match loom.store {
-        StoreKind::Slots => format!(heap, "{boards} boards, slot store, {part} records, {turns} turns\n"),
+        StoreKind::Slots => format!(
+            heap,
+            "{boards} boards, slot store, {part} records, {turns} turns\n"
+        ),
         StoreKind::Journal { places } => {
-            format!(heap, "{boards} boards, journal of {places} places, {part} records, {turns} turns\n")
+            format!(
+                heap,
+                "{boards} boards, journal of {places} places, {part} records, {turns} turns\n"
+            )
         }
     }
 }

@@ -7,7 +7,9 @@ use std::io::Read;
 // One byte past what a run file may have tells a file that is too long: no more is ever held.
 fn input(rt: &LibcRuntime) -> Result<Vec<u8>, AnyError> {
     let mut bytes = Vec::new(rt.alloc());
-    rt.stdin().take(MAX_BYTES as u64 + 1).read_to_end(&mut bytes)?;
+    rt.stdin()
+        .take(MAX_BYTES as u64 + 1)
+        .read_to_end(&mut bytes)?;
     Ok(bytes)
 }
 

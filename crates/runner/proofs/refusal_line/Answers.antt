@@ -7,6 +7,6 @@ use Rattle.runner.proofs.refusal_line.Needs as need
 
 pub returns : need.returns
 returns c =
-  made-weaker (c .format .result) _ _
+    made-weaker (c .format .result) _ _
     (λ s e. e ∙ (λ i. codes "REFUSED " ++ (decimal (c .number-number .ensures i) ++ (codes " " ++ (decimal (c .line-line .ensures i) ++ codes "\n")))))
     (c .format .ensures .made)

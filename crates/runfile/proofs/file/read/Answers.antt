@@ -5,4 +5,5 @@ pub returns : need.returns
 returns c = record {
   meant = c .read-all .ensures;
   reads-back = reads-back (c .args .bytes .now) (c .read-all .result) (c .read-all .ensures);
-  spelled = spelled (c .args .bytes .now) (c .read-all .result) (c .read-all .ensures) }
+  spelled = spelled (c .args .bytes .now) (c .read-all .result) (c .read-all .ensures);
+}
