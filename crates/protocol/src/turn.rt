@@ -1,11 +1,8 @@
 // The eight turns that act on a loom. A turn is what a run file's line asks for; its numbers
 // may be out of the loom's bounds, and the console then refuses it.
 
-// a board of a loom, counted from 0
-pub type Board = u32;
-
-// what one board says to another: 32 bits
-pub type Word = u32;
+use records::event::Board;
+use records::event::Word;
 
 #[derive(Clone, Copy, PartialEq, Eq, Debug)]
 pub enum Turn {
