@@ -1,7 +1,8 @@
 // A feed drive's record: the pick, and tension and length in single precision.
 ghost use mathlib.Core.Path.{_≡_};
 ghost use Prim.Native.Nat.{_<_};
-ghost use Rattle.records.specs.Feed.{feed-rules, measured, kept, fed, pulled};
+ghost use lib.Ieee.{binary32, mul};
+ghost use Rattle.records.specs.Feed.{feed-rules, measured, kept, fed, pulled, whole, quarter, half};
 use crate::event::Board;
 use crate::event::Word;
 use crate::part::Part;
@@ -24,6 +25,20 @@ pub struct Measures {
     length: f32,
 }
 
+// n quarters.
+fn quarters(n: u32) -> f32
+    requires { ⌜ n < 1024 ⌝ }
+    ensures { λ r. ⌜ r ≡ mul binary32 (whole n) quarter ⌝ }
+{
+    n as f32 * 0.25
+}
+
+fn halved(x: f32) -> f32
+    ensures { λ r. ⌜ r ≡ mul binary32 x half ⌝ }
+{
+    x * 0.5
+}
+
 impl Measures {
     fn of_bits(tension: u32, length: u32) -> Measures
         ensures { λ r. ⌜ r ≡ measured tension length ⌝ }
@@ -39,10 +54,9 @@ impl Measures {
         requires { ⌜ n < 1024 ⌝ }
         ensures { λ r. ⌜ r ≡ fed self n ⌝ }
     {
-        let more = n as f32 * 0.25;
         Measures {
             tension: self.tension,
-            length: self.length + more,
+            length: self.length + quarters(n),
         }
     }
 
@@ -51,9 +65,8 @@ impl Measures {
         requires { ⌜ n < 256 ⌝ }
         ensures { λ r. ⌜ r ≡ pulled self n ⌝ }
     {
-        let slack = self.tension * 0.5;
         Measures {
-            tension: slack + n as f32,
+            tension: halved(self.tension) + n as f32,
             length: self.length,
         }
     }
@@ -82,9 +95,8 @@ pub impl Part for Feed as FeedPart {
     }
 
     fn worked(self, word: Word) -> Feed {
-        Measures::of_bits(self.tension, self.length)
-            .feed(word % 1024)
-            .keep(next_pick(self.pick))
+        let measures = Measures::of_bits(self.tension, self.length);
+        measures.feed(word % 1024).keep(next_pick(self.pick))
     }
 
     fn sent(self, _to: Board, _word: Word) -> Feed {
@@ -92,8 +104,7 @@ pub impl Part for Feed as FeedPart {
     }
 
     fn heard(self, _from: Board, word: Word) -> Feed {
-        Measures::of_bits(self.tension, self.length)
-            .pull(word % 256)
-            .keep(self.pick)
+        let measures = Measures::of_bits(self.tension, self.length);
+        measures.pull(word % 256).keep(self.pick)
     }
 }
