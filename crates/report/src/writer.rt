@@ -1,0 +1,97 @@
+// The writer of a report is one of three states, each moved into the next: turn lines, board lines,
+// the whole report. A state holds plain numbers; the memory is lent at each call.
+ghost use mathlib.Core.Path.{_≡_};
+ghost use Prim.Native.Nat.{_+_};
+ghost use Rattle.report.specs.Lines.{turnLine, boardLine, endLine};
+ghost use Rattle.report.specs.Writers.{begun, turnTried, boardsBegun, boardTried, endTried, after, refusalNumber};
+ghost use Rattle.report.specs.Writing.{written};
+use crate::lines::board_line;
+use crate::lines::end_line;
+use crate::lines::turn_line;
+use crate::place::put_bytes;
+use crate::spell::Spelled;
+use crate::state::BoardState;
+
+// the most turn lines and board lines of a report
+const MAX_TURNS: u32 = 4096;
+const MAX_BOARDS: u32 = 19;
+
+#[derive(Clone, Copy, PartialEq, Eq, Debug)]
+pub enum WriteRefusal {
+    // turn line 4,097 or board line 20
+    TooManyLines,
+    // the line does not fit the memory
+    NoRoom,
+}
+
+impl WriteRefusal {
+    pub fn number(self) -> u32
+        ensures { λ r. ⌜ r ≡ refusalNumber self ⌝ }
+    {
+        match self {
+            WriteRefusal::TooManyLines => 27,
+            WriteRefusal::NoRoom => 26,
+        }
+    }
+}
+
+// a line that was not written: why, and the writer as it was
+#[derive(Drop)]
+pub struct NotWritten<W> {
+    pub refusal: WriteRefusal,
+    pub writer: W,
+}
+
+// turn lines are written: where the next line goes, and how many there are
+#[derive(Drop)]
+pub struct TurnLines {
+    at: usize,
+    turns: u32,
+}
+
+// board lines are written: the same, how many board lines there are and where they begin
+#[derive(Drop)]
+pub struct BoardLines {
+    at: usize,
+    turns: u32,
+    boards: u32,
+    offset: usize,
+}
+
+// the report is whole
+#[derive(Drop)]
+pub struct Report {
+    length: usize,
+}
+
+impl TurnLines {
+    // A new report, at the front of the memory.
+    pub fn begin() -> TurnLines
+        ensures { λ r. ⌜ r ≡ begun ⌝ }
+    {
+        TurnLines { at: 0, turns: 0 }
+    }
+
+    // The next turn's line; the writer numbers them from 1.
+    pub fn turn(self, out: &mut [u8], answer: u32, kind: u32) -> Result<TurnLines, NotWritten<TurnLines>>
+        ensures answer { λ r. ⌜ r ≡ turnTried self (now (out .entry)) (turnLine (self .turns + 1) answer kind) ⌝ }
+        ensures memory { λ r. ⌜ now (out .exit) ≡ after r (written (now (out .entry)) (self .at) (turnLine (self .turns + 1) answer kind)) (now (out .entry)) ⌝ }
+    {
+        if self.turns >= MAX_TURNS {
+            return Err(NotWritten { refusal: WriteRefusal::TooManyLines, writer: self });
+        }
+        let turns = self.turns + 1;
+        let line = turn_line(turns, answer, kind);
+        if !put_bytes(out, self.at, line.as_slice()) {
+            return Err(NotWritten { refusal: WriteRefusal::NoRoom, writer: self });
+        }
+        Ok(TurnLines { at: self.at + line.as_slice().len(), turns })
+    }
+
+    // No turn line follows.
+    pub fn boards(self) -> BoardLines
+        ensures { λ r. ⌜ r ≡ boardsBegun self ⌝ }
+    {
+        BoardLines { at: self.at, turns: self.turns, boards: 0, offset: self.at }
+    }
+}
