@@ -1,8 +1,10 @@
 // The writer of a report is one of three states, each moved into the next: turn lines, board lines,
 // the whole report. A state holds plain numbers; the memory is lent at each call.
 ghost use mathlib.Core.Path.{_≡_};
-ghost use Prim.Native.Nat.{_+_};
+ghost use mathlib.Core.List.{List, []};
+ghost use Prim.Native.Nat.{ℕ, _+_};
 ghost use Rattle.report.specs.Lines.{turnLine, boardLine, endLine};
+ghost use Rattle.report.specs.Reports.{Answer, TurnsWritten, BoardsWritten, TurnFollows, BoardFollows, EndFollows, answered, told};
 ghost use Rattle.report.specs.Writers.{begun, turnTried, boardsBegun, boardTried, endTried, after, refusalNumber};
 ghost use Rattle.report.specs.Writing.{written};
 use crate::lines::board_line;
@@ -67,13 +69,13 @@ pub struct Report {
 impl TurnLines {
     // A new report, at the front of the memory.
     pub fn begin() -> TurnLines
-        ensures { λ r. ⌜ r ≡ begun ⌝ }
+        ensures value { λ r. ⌜ r ≡ begun ⌝ }
+        ensures follows { λ r. ⌜ ((out : List ℕ) → TurnsWritten r out []) ⌝ }
     {
         TurnLines { at: 0, turns: 0 }
     }
 
-    // The next turn's line; the writer numbers them from 1.
-    pub fn turn(self, out: &mut [u8], answer: u32, kind: u32) -> Result<TurnLines, NotWritten<TurnLines>>
+    fn try_turn(self, out: &mut [u8], answer: u32, kind: u32) -> Result<TurnLines, NotWritten<TurnLines>>
         ensures answer { λ r. ⌜ r ≡ turnTried self (now (out .entry)) (turnLine (self .turns + 1) answer kind) ⌝ }
         ensures memory { λ r. ⌜ now (out .exit) ≡ after r (written (now (out .entry)) (self .at) (turnLine (self .turns + 1) answer kind)) (now (out .entry)) ⌝ }
     {
@@ -88,10 +90,76 @@ impl TurnLines {
         Ok(TurnLines { at: self.at + line.as_slice().len(), turns })
     }
 
+    // The next turn's line; the writer numbers them from 1. With it, what is written goes on being
+    // the front of a report.
+    pub fn turn(self, out: &mut [u8], answer: u32, kind: u32) -> Result<TurnLines, NotWritten<TurnLines>>
+        ensures answer { λ r. ⌜ r ≡ turnTried self (now (out .entry)) (turnLine (self .turns + 1) answer kind) ⌝ }
+        ensures memory { λ r. ⌜ now (out .exit) ≡ after r (written (now (out .entry)) (self .at) (turnLine (self .turns + 1) answer kind)) (now (out .entry)) ⌝ }
+        ensures follows { λ r. ⌜ TurnFollows self (now (out .entry)) (answered answer kind) r (now (out .exit)) ⌝ }
+    {
+        self.try_turn(out, answer, kind)
+    }
+
     // No turn line follows.
     pub fn boards(self) -> BoardLines
-        ensures { λ r. ⌜ r ≡ boardsBegun self ⌝ }
+        ensures value { λ r. ⌜ r ≡ boardsBegun self ⌝ }
+        ensures follows { λ r. ⌜ ((out : List ℕ) (ts : List Answer) → TurnsWritten self out ts → BoardsWritten r out ts []) ⌝ }
     {
         BoardLines { at: self.at, turns: self.turns, boards: 0, offset: self.at }
+    }
+}
+
+impl BoardLines {
+    fn try_board<R: Spelled>(self, out: &mut [u8], board: u32, state: BoardState, of: R) -> Result<BoardLines, NotWritten<BoardLines>>
+        ensures answer { λ r. ⌜ r ≡ boardTried self (now (out .entry)) (boardLine board state (R·Spelled .spelled of)) ⌝ }
+        ensures memory { λ r. ⌜ now (out .exit) ≡ after r (written (now (out .entry)) (self .at) (boardLine board state (R·Spelled .spelled of))) (now (out .entry)) ⌝ }
+    {
+        if self.boards >= MAX_BOARDS {
+            return Err(NotWritten { refusal: WriteRefusal::TooManyLines, writer: self });
+        }
+        let line = board_line(board, state, of);
+        if !put_bytes(out, self.at, line.as_slice()) {
+            return Err(NotWritten { refusal: WriteRefusal::NoRoom, writer: self });
+        }
+        let at = self.at + line.as_slice().len();
+        Ok(BoardLines { at, turns: self.turns, boards: self.boards + 1, offset: self.offset })
+    }
+
+    // The line of a board.
+    pub fn board<R: Spelled>(self, out: &mut [u8], board: u32, state: BoardState, of: R) -> Result<BoardLines, NotWritten<BoardLines>>
+        ensures answer { λ r. ⌜ r ≡ boardTried self (now (out .entry)) (boardLine board state (R·Spelled .spelled of)) ⌝ }
+        ensures memory { λ r. ⌜ now (out .exit) ≡ after r (written (now (out .entry)) (self .at) (boardLine board state (R·Spelled .spelled of))) (now (out .entry)) ⌝ }
+        ensures follows { λ r. ⌜ BoardFollows self (now (out .entry)) (told board state (R·Spelled .spelled of)) r (now (out .exit)) ⌝ }
+    {
+        self.try_board(out, board, state, of)
+    }
+
+    fn try_end(self, out: &mut [u8]) -> Result<Report, NotWritten<BoardLines>>
+        ensures answer { λ r. ⌜ r ≡ endTried self (now (out .entry)) (endLine (self .turns) (self .offset)) ⌝ }
+        ensures memory { λ r. ⌜ now (out .exit) ≡ after r (written (now (out .entry)) (self .at) (endLine (self .turns) (self .offset))) (now (out .entry)) ⌝ }
+    {
+        let line = end_line(self.turns, self.offset);
+        if !put_bytes(out, self.at, line.as_slice()) {
+            return Err(NotWritten { refusal: WriteRefusal::NoRoom, writer: self });
+        }
+        Ok(Report { length: self.at + line.as_slice().len() })
+    }
+
+    // The last line, which points back to the first board line.
+    pub fn end(self, out: &mut [u8]) -> Result<Report, NotWritten<BoardLines>>
+        ensures answer { λ r. ⌜ r ≡ endTried self (now (out .entry)) (endLine (self .turns) (self .offset)) ⌝ }
+        ensures memory { λ r. ⌜ now (out .exit) ≡ after r (written (now (out .entry)) (self .at) (endLine (self .turns) (self .offset))) (now (out .entry)) ⌝ }
+        ensures follows { λ r. ⌜ EndFollows self (now (out .entry)) r (now (out .exit)) ⌝ }
+    {
+        self.try_end(out)
+    }
+}
+
+impl Report {
+    // How many bytes the report has.
+    pub fn length(&self) -> usize
+        ensures { λ r. ⌜ r ≡ now (self .entry) .length ⌝ }
+    {
+        self.length
     }
 }
