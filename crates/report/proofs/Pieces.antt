@@ -12,7 +12,7 @@ begun {whole = whole} e = record { joins = ap (λ xs. xs ++ whole) e }
 
 pub piece : {was now rest whole : List ℕ} (a : List ℕ) → Ahead was (a ++ rest) whole → now ≡ was ++ a → Ahead now rest whole
 piece {was = was} {rest = rest} a h e =
-  record { joins = ap (λ xs. xs ++ rest) e ∙ append-assoc was a rest ∙ h .joins }
+    record { joins = ap (λ xs. xs ++ rest) e ∙ append-assoc was a rest ∙ h .joins }
 
 pub ended : {was now whole : List ℕ} (a : List ℕ) → Ahead was a whole → now ≡ was ++ a → now ≡ whole
 ended a h e = e ∙ h .joins

@@ -9,5 +9,5 @@ use Rattle.report.specs.Writing.{written}
 
 pub put-written : (at k : ℕ) (out bytes ys : List ℕ) → ys ≡ bytes → k ≡ length bytes → putMid at k out ys ≡ written out at bytes
 put-written at k out bytes ys e n =
-  ap (λ zs. take at out ++ (zs ++ drop k (drop at out))) e
+    ap (λ zs. take at out ++ (zs ++ drop k (drop at out))) e
     ∙ ap (λ zs. take at out ++ (bytes ++ zs)) (drop-drop k at out ∙ ap (λ m. drop (at + m) out) n)

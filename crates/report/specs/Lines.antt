@@ -25,7 +25,7 @@ stateNumber Stopped = 3
 -- B, board, state and how the record is spelled
 abbrev pub boardLine : ℕ → BoardState → List ℕ → List ℕ
 boardLine board state spelling =
-  codes "B " ++ (decimal board ++ (codes " " ++ (decimal (stateNumber state) ++ (codes " " ++ (spelling ++ codes "\n")))))
+    codes "B " ++ (decimal board ++ (codes " " ++ (decimal (stateNumber state) ++ (codes " " ++ (spelling ++ codes "\n")))))
 
 -- END, how many turn lines there are, and where the board lines begin
 abbrev pub endLine : ℕ → ℕ → List ℕ

@@ -1,9 +1,11 @@
 -- Whole reports, and how far a writer has come with one.
 use mathlib.Core.Path.{_≡_}
+use mathlib.Core.Bool.{true}
 use mathlib.Core.List.{List, [], _∷_, _++_}
 use Prim.Native.Nat.{ℕ, _+_, _^_, _≤_, _<_}
 use lib.ListN.{length, take, drop, getD}
 use Rattle.std.specs.Joined.{joined}
+use Rattle.std.specs.Results.{isOk}
 use Rattle.std.specs.Vec.{made}
 use Rattle.std.specs.declared.result.Result.{Result}
 use Rattle.std.specs.shelf.Lists.{All}
@@ -79,7 +81,30 @@ TurnFollows w out a r out′ = (ts : List Answer) → TurnsWritten w out ts → 
 
 abbrev pub BoardFollows : BoardLines → List ℕ → BoardFacts → Result BoardLines (NotWritten BoardLines) → List ℕ → Type 0
 BoardFollows w out b r out′ =
-  (ts : List Answer) (bs : List BoardFacts) → BoardsWritten w out ts bs → made r (λ v. BoardsWritten v out′ ts (bs ++ b ∷ []))
+    (ts : List Answer) (bs : List BoardFacts) → BoardsWritten w out ts bs → made r (λ v. BoardsWritten v out′ ts (bs ++ b ∷ []))
 
 abbrev pub EndFollows : BoardLines → List ℕ → Result Report (NotWritten BoardLines) → List ℕ → Type 0
 EndFollows w out r out′ = (ts : List Answer) (bs : List BoardFacts) → BoardsWritten w out ts bs → made r (λ v. ReportWritten v out′ ts bs)
+
+-- Answers and boards as a loom has them: refusals and states of at most two digits and kinds of one; at most 19 boards,
+-- with records of at most 30 bytes.
+abbrev pub SmallAnswer : Answer → Type 0
+SmallAnswer a = (a .number < 100) × (a .kind < 10)
+
+abbrev pub ShortBoard : BoardFacts → Type 0
+ShortBoard b = (b .board < 100) × (length (b .spelling) ≤ 30)
+
+-- 48,000 bytes always suffice: no line of such a report is refused for want of room
+abbrev pub TurnFits : TurnLines → List ℕ → Answer → Result TurnLines (NotWritten TurnLines) → Type 0
+TurnFits w out a r =
+    (ts : List Answer) → TurnsWritten w out ts → All SmallAnswer ts → SmallAnswer a → length ts < 4096 → 48000 ≤ length out → isOk r ≡ true
+
+abbrev pub BoardFits : BoardLines → List ℕ → BoardFacts → Result BoardLines (NotWritten BoardLines) → Type 0
+BoardFits w out b r =
+    (ts : List Answer) (bs : List BoardFacts) → BoardsWritten w out ts bs → All SmallAnswer ts → length ts ≤ 4096 → All ShortBoard bs → ShortBoard b
+    → length bs < 19 → 48000 ≤ length out → isOk r ≡ true
+
+abbrev pub EndFits : BoardLines → List ℕ → Result Report (NotWritten BoardLines) → Type 0
+EndFits w out r =
+    (ts : List Answer) (bs : List BoardFacts) → BoardsWritten w out ts bs → All SmallAnswer ts → length ts ≤ 4096 → All ShortBoard bs
+    → length bs ≤ 19 → 48000 ≤ length out → isOk r ≡ true

@@ -16,5 +16,5 @@ hexDigit n = cond (ltb n 10) (48 + n) (87 + n)
 -- 32 bits as 8 such digits, the highest first
 abbrev pub hexOf : ℕ → List ℕ
 hexOf n =
-  hexDigit (n / 0x1000_0000 % 16) ∷ hexDigit (n / 0x100_0000 % 16) ∷ hexDigit (n / 0x10_0000 % 16) ∷ hexDigit (n / 0x1_0000 % 16)
-  ∷ hexDigit (n / 0x1000 % 16) ∷ hexDigit (n / 0x100 % 16) ∷ hexDigit (n / 0x10 % 16) ∷ hexDigit (n % 16) ∷ []
+    hexDigit (n / 0x1000_0000 % 16) ∷ hexDigit (n / 0x100_0000 % 16) ∷ hexDigit (n / 0x10_0000 % 16) ∷ hexDigit (n / 0x1_0000 % 16)
+    ∷ hexDigit (n / 0x1000 % 16) ∷ hexDigit (n / 0x100 % 16) ∷ hexDigit (n / 0x10 % 16) ∷ hexDigit (n % 16) ∷ []

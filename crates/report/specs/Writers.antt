@@ -49,7 +49,7 @@ boardsBegun w = record { at = w .at; turns = w .turns; boards = 0; offset = w .a
 -- at most 19 board lines
 abbrev pub boardTried : BoardLines → List ℕ → List ℕ → Result BoardLines (NotWritten BoardLines)
 boardTried w out line =
-  tried (leb 19 (w .boards)) (fits (w .at) line out) w
+    tried (leb 19 (w .boards)) (fits (w .at) line out) w
     (record { at = w .at + length line; turns = w .turns; boards = w .boards + 1; offset = w .offset })
 
 -- the last line

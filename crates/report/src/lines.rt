@@ -1,5 +1,7 @@
 // The lines of a report, each made as a whole before it is written.
 ghost use mathlib.Core.Path.{_≡_};
+ghost use Prim.Native.Nat.{_≤_};
+ghost use lib.ListN.{length};
 ghost use Rattle.report.specs.Lines.{turnLine, boardLine, endLine, stateNumber};
 ghost use Rattle.report.specs.Texts.{text};
 use crate::line::Line;
@@ -45,7 +47,8 @@ pub fn end_line(turns: u32, offset: usize) -> Line
 }
 
 pub fn board_line<R: Spelled>(board: u32, state: BoardState, of: R) -> Line
-    ensures { λ r. ⌜ text r ≡ boardLine board state (R·Spelled .spelled of) ⌝ }
+    ensures written { λ r. ⌜ text r ≡ boardLine board state (R·Spelled .spelled of) ⌝ }
+    ensures short { λ _. ⌜ length (R·Spelled .spelled of) ≤ 30 ⌝ }
 {
     let spelling = of.spell();
     let mut line = Line::new();

@@ -15,7 +15,7 @@ pub trait Spelled: Copy {
 
     fn spell(self) -> Line
         ensures written { λ r. ⌜ text r ≡ spelled self ⌝ }
-        ensures short { λ r. ⌜ length (text r) ≤ 50 ⌝ };
+        ensures short { λ r. ⌜ length (text r) ≤ 30 ⌝ };
 }
 
 pub impl Spelled for Harness as HarnessSpelled {
@@ -36,7 +36,11 @@ pub impl Spelled for Harness as HarnessSpelled {
 fn shown_bits(bits: u32) -> u32
     ensures { λ r. ⌜ r ≡ shown bits ⌝ }
 {
-    if bits % 0x8000_0000 > 0x7f80_0000 { 0x7fc0_0000 } else { bits }
+    if bits % 0x8000_0000 > 0x7f80_0000 {
+        0x7fc0_0000
+    } else {
+        bits
+    }
 }
 
 pub impl Spelled for Feed as FeedSpelled {

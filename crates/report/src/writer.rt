@@ -2,9 +2,10 @@
 // the whole report. A state holds plain numbers; the memory is lent at each call.
 ghost use mathlib.Core.Path.{_≡_};
 ghost use mathlib.Core.List.{List, []};
-ghost use Prim.Native.Nat.{ℕ, _+_};
+ghost use Prim.Native.Nat.{ℕ, _+_, _≤_};
+ghost use lib.ListN.{length};
 ghost use Rattle.report.specs.Lines.{turnLine, boardLine, endLine};
-ghost use Rattle.report.specs.Reports.{Answer, TurnsWritten, BoardsWritten, TurnFollows, BoardFollows, EndFollows, answered, told};
+ghost use Rattle.report.specs.Reports.{Answer, TurnsWritten, BoardsWritten, TurnFollows, BoardFollows, EndFollows, TurnFits, BoardFits, EndFits, answered, told};
 ghost use Rattle.report.specs.Writers.{begun, turnTried, boardsBegun, boardTried, endTried, after, refusalNumber};
 ghost use Rattle.report.specs.Writing.{written};
 use crate::lines::board_line;
@@ -16,6 +17,7 @@ use crate::state::BoardState;
 
 // the most turn lines and board lines of a report
 const MAX_TURNS: u32 = 4096;
+
 const MAX_BOARDS: u32 = 19;
 
 #[derive(Clone, Copy, PartialEq, Eq, Debug)]
@@ -75,27 +77,47 @@ impl TurnLines {
         TurnLines { at: 0, turns: 0 }
     }
 
-    fn try_turn(self, out: &mut [u8], answer: u32, kind: u32) -> Result<TurnLines, NotWritten<TurnLines>>
+    fn try_turn(
+        self,
+        out: &mut [u8],
+        answer: u32,
+        kind: u32,
+    ) -> Result<TurnLines, NotWritten<TurnLines>>
         ensures answer { λ r. ⌜ r ≡ turnTried self (now (out .entry)) (turnLine (self .turns + 1) answer kind) ⌝ }
         ensures memory { λ r. ⌜ now (out .exit) ≡ after r (written (now (out .entry)) (self .at) (turnLine (self .turns + 1) answer kind)) (now (out .entry)) ⌝ }
     {
         if self.turns >= MAX_TURNS {
-            return Err(NotWritten { refusal: WriteRefusal::TooManyLines, writer: self });
+            return Err(NotWritten {
+                refusal: WriteRefusal::TooManyLines,
+                writer: self,
+            });
         }
         let turns = self.turns + 1;
         let line = turn_line(turns, answer, kind);
         if !put_bytes(out, self.at, line.as_slice()) {
-            return Err(NotWritten { refusal: WriteRefusal::NoRoom, writer: self });
+            return Err(NotWritten {
+                refusal: WriteRefusal::NoRoom,
+                writer: self,
+            });
         }
-        Ok(TurnLines { at: self.at + line.as_slice().len(), turns })
+        Ok(TurnLines {
+            at: self.at + line.as_slice().len(),
+            turns,
+        })
     }
 
     // The next turn's line; the writer numbers them from 1. With it, what is written goes on being
     // the front of a report.
-    pub fn turn(self, out: &mut [u8], answer: u32, kind: u32) -> Result<TurnLines, NotWritten<TurnLines>>
+    pub fn turn(
+        self,
+        out: &mut [u8],
+        answer: u32,
+        kind: u32,
+    ) -> Result<TurnLines, NotWritten<TurnLines>>
         ensures answer { λ r. ⌜ r ≡ turnTried self (now (out .entry)) (turnLine (self .turns + 1) answer kind) ⌝ }
         ensures memory { λ r. ⌜ now (out .exit) ≡ after r (written (now (out .entry)) (self .at) (turnLine (self .turns + 1) answer kind)) (now (out .entry)) ⌝ }
         ensures follows { λ r. ⌜ TurnFollows self (now (out .entry)) (answered answer kind) r (now (out .exit)) ⌝ }
+        ensures fits { λ r. ⌜ TurnFits self (now (out .entry)) (answered answer kind) r ⌝ }
     {
         self.try_turn(out, answer, kind)
     }
@@ -105,31 +127,62 @@ impl TurnLines {
         ensures value { λ r. ⌜ r ≡ boardsBegun self ⌝ }
         ensures follows { λ r. ⌜ ((out : List ℕ) (ts : List Answer) → TurnsWritten self out ts → BoardsWritten r out ts []) ⌝ }
     {
-        BoardLines { at: self.at, turns: self.turns, boards: 0, offset: self.at }
+        BoardLines {
+            at: self.at,
+            turns: self.turns,
+            boards: 0,
+            offset: self.at,
+        }
     }
 }
 
 impl BoardLines {
-    fn try_board<R: Spelled>(self, out: &mut [u8], board: u32, state: BoardState, of: R) -> Result<BoardLines, NotWritten<BoardLines>>
+    fn try_board<R: Spelled>(
+        self,
+        out: &mut [u8],
+        board: u32,
+        state: BoardState,
+        of: R,
+    ) -> Result<BoardLines, NotWritten<BoardLines>>
         ensures answer { λ r. ⌜ r ≡ boardTried self (now (out .entry)) (boardLine board state (R·Spelled .spelled of)) ⌝ }
         ensures memory { λ r. ⌜ now (out .exit) ≡ after r (written (now (out .entry)) (self .at) (boardLine board state (R·Spelled .spelled of))) (now (out .entry)) ⌝ }
+        ensures short { λ _. ⌜ length (R·Spelled .spelled of) ≤ 30 ⌝ }
     {
-        if self.boards >= MAX_BOARDS {
-            return Err(NotWritten { refusal: WriteRefusal::TooManyLines, writer: self });
-        }
         let line = board_line(board, state, of);
+        if self.boards >= MAX_BOARDS {
+            return Err(NotWritten {
+                refusal: WriteRefusal::TooManyLines,
+                writer: self,
+            });
+        }
         if !put_bytes(out, self.at, line.as_slice()) {
-            return Err(NotWritten { refusal: WriteRefusal::NoRoom, writer: self });
+            return Err(NotWritten {
+                refusal: WriteRefusal::NoRoom,
+                writer: self,
+            });
         }
         let at = self.at + line.as_slice().len();
-        Ok(BoardLines { at, turns: self.turns, boards: self.boards + 1, offset: self.offset })
+        Ok(BoardLines {
+            at,
+            turns: self.turns,
+            boards: self.boards + 1,
+            offset: self.offset,
+        })
     }
 
     // The line of a board.
-    pub fn board<R: Spelled>(self, out: &mut [u8], board: u32, state: BoardState, of: R) -> Result<BoardLines, NotWritten<BoardLines>>
+    pub fn board<R: Spelled>(
+        self,
+        out: &mut [u8],
+        board: u32,
+        state: BoardState,
+        of: R,
+    ) -> Result<BoardLines, NotWritten<BoardLines>>
         ensures answer { λ r. ⌜ r ≡ boardTried self (now (out .entry)) (boardLine board state (R·Spelled .spelled of)) ⌝ }
         ensures memory { λ r. ⌜ now (out .exit) ≡ after r (written (now (out .entry)) (self .at) (boardLine board state (R·Spelled .spelled of))) (now (out .entry)) ⌝ }
         ensures follows { λ r. ⌜ BoardFollows self (now (out .entry)) (told board state (R·Spelled .spelled of)) r (now (out .exit)) ⌝ }
+        ensures fits { λ r. ⌜ BoardFits self (now (out .entry)) (told board state (R·Spelled .spelled of)) r ⌝ }
+        ensures short { λ _. ⌜ length (R·Spelled .spelled of) ≤ 30 ⌝ }
     {
         self.try_board(out, board, state, of)
     }
@@ -140,9 +193,14 @@ impl BoardLines {
     {
         let line = end_line(self.turns, self.offset);
         if !put_bytes(out, self.at, line.as_slice()) {
-            return Err(NotWritten { refusal: WriteRefusal::NoRoom, writer: self });
+            return Err(NotWritten {
+                refusal: WriteRefusal::NoRoom,
+                writer: self,
+            });
         }
-        Ok(Report { length: self.at + line.as_slice().len() })
+        Ok(Report {
+            length: self.at + line.as_slice().len(),
+        })
     }
 
     // The last line, which points back to the first board line.
@@ -150,6 +208,7 @@ impl BoardLines {
         ensures answer { λ r. ⌜ r ≡ endTried self (now (out .entry)) (endLine (self .turns) (self .offset)) ⌝ }
         ensures memory { λ r. ⌜ now (out .exit) ≡ after r (written (now (out .entry)) (self .at) (endLine (self .turns) (self .offset))) (now (out .entry)) ⌝ }
         ensures follows { λ r. ⌜ EndFollows self (now (out .entry)) r (now (out .exit)) ⌝ }
+        ensures fits { λ r. ⌜ EndFits self (now (out .entry)) r ⌝ }
     {
         self.try_end(out)
     }

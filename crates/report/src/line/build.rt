@@ -12,7 +12,10 @@ impl Line {
         ensures written { λ r. ⌜ text r ≡ [] ⌝ }
         ensures long { λ r. ⌜ length (text r) ≡ 0 ⌝ }
     {
-        Line { bytes: [0; 96], len: 0 }
+        Line {
+            bytes: [0; 96],
+            len: 0,
+        }
     }
 
     pub fn as_slice(&self) -> &[u8]
@@ -85,5 +88,9 @@ fn hex_digit(n: u32) -> u8
     requires { ⌜ n < 16 ⌝ }
     ensures { λ r. ⌜ r ≡ hexDigit n ⌝ }
 {
-    if n < 10 { b'0' + n as u8 } else { b'a' - 10 + n as u8 }
+    if n < 10 {
+        b'0' + n as u8
+    } else {
+        b'a' - 10 + n as u8
+    }
 }

@@ -6,9 +6,9 @@ use Rattle.report.proofs.lines.end_line.Needs as need
 
 pub returns : need.returns
 returns c =
-  ended (codes "\n")
-  (piece (decimal (c .args .offset))
-  (piece (codes " ")
-  (piece (decimal (c .args .turns))
-  (piece (codes "END ")
-  (begun (c .new-line .ensures .written)) (c .push .ensures .written)) (c .push-decimal .ensures .written)) (c .push-2 .ensures .written)) (c .push-decimal-2 .ensures .written)) (c .push-3 .ensures .written)
+    ended (codes "\n")
+    (piece (decimal (c .args .offset))
+    (piece (codes " ")
+    (piece (decimal (c .args .turns))
+    (piece (codes "END ")
+    (begun (c .new-line .ensures .written)) (c .push .ensures .written)) (c .push-decimal .ensures .written)) (c .push-2 .ensures .written)) (c .push-decimal-2 .ensures .written)) (c .push-3 .ensures .written)

@@ -6,10 +6,10 @@ use Rattle.report.proofs.lines.turn_line.Needs as need
 
 pub returns : need.returns
 returns c =
-  ended (codes "\n")
-  (piece (decimal (c .args .kind))
-  (piece (codes " ")
-  (piece (decimal (c .args .answer))
-  (piece (codes " ")
-  (piece (decimal (c .args .number))
-  (begun (c .new-line .ensures .written)) (c .push-decimal .ensures .written)) (c .push .ensures .written)) (c .push-decimal-2 .ensures .written)) (c .push-2 .ensures .written)) (c .push-decimal-3 .ensures .written)) (c .push-3 .ensures .written)
+    ended (codes "\n")
+    (piece (decimal (c .args .kind))
+    (piece (codes " ")
+    (piece (decimal (c .args .answer))
+    (piece (codes " ")
+    (piece (decimal (c .args .number))
+    (begun (c .new-line .ensures .written)) (c .push-decimal .ensures .written)) (c .push .ensures .written)) (c .push-decimal-2 .ensures .written)) (c .push-2 .ensures .written)) (c .push-decimal-3 .ensures .written)) (c .push-3 .ensures .written)

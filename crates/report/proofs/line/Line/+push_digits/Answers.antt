@@ -19,22 +19,22 @@ push-requires t c κs = let some = decimal-some (c .args .n) (omega arith) in om
 
 pub returns-then-n-lt10 : need.returns-then-n-lt10
 returns-then-n-lt10 t c =
-  let one : decimal (c .args .n) ≡ (48 + c .args .n) ∷ [] = decimal-digit (c .args .n) (c .if-n-lt10 .taken) in
-  c .push .ensures .written ∙ ap (λ d. text (c .args .self .now) ++ (48 + d) ∷ []) (mod-eq-of-lt (c .if-n-lt10 .taken)) ∙ ap (λ ds. text (c .args .self .now) ++ ds) (sym one)
+    let one : decimal (c .args .n) ≡ (48 + c .args .n) ∷ [] = decimal-digit (c .args .n) (c .if-n-lt10 .taken) in
+    c .push .ensures .written ∙ ap (λ d. text (c .args .self .now) ++ (48 + d) ∷ []) (mod-eq-of-lt (c .if-n-lt10 .taken)) ∙ ap (λ ds. text (c .args .self .now) ++ ds) (sym one)
 
 pub push-digits-requires : need.push-digits-requires
 push-digits-requires t c κs =
-  let l = longer (c .args .n) (c .if-n-lt10 .left) (omega arith) in
-  (omega arith, omega (arith, c .pre, l))
+    let l = longer (c .args .n) (c .if-n-lt10 .left) (omega arith) in
+    (omega arith, omega (arith, c .pre, l))
 
 pub push-requires-2 : need.push-requires-2
 push-requires-2 t c κs =
-  let l = longer (c .args .n) (c .if-n-lt10 .left) (omega arith) in
-  let e = ap length (c .push-digits .ensures) ∙ length-append (text (c .args .self .now)) (decimal (c .args .n / 10)) in
-  omega (arith, c .pre, l, e)
+    let l = longer (c .args .n) (c .if-n-lt10 .left) (omega arith) in
+    let e = ap length (c .push-digits .ensures) ∙ length-append (text (c .args .self .now)) (decimal (c .args .n / 10)) in
+    omega (arith, c .pre, l, e)
 
 pub returns : need.returns
 returns t c =
-  let digits = decimal-step (c .args .n) (c .if-n-lt10 .left) (omega arith) in
-  c .push-2 .ensures .written ∙ ap (λ xs. xs ++ (48 + c .args .n % 10) ∷ []) (c .push-digits .ensures)
+    let digits = decimal-step (c .args .n) (c .if-n-lt10 .left) (omega arith) in
+    c .push-2 .ensures .written ∙ ap (λ xs. xs ++ (48 + c .args .n % 10) ∷ []) (c .push-digits .ensures)
     ∙ append-assoc (text (c .args .self .now)) (decimal (c .args .n / 10)) _ ∙ ap (λ ds. text (c .args .self .now) ++ ds) (sym digits)

@@ -10,9 +10,9 @@ use Rattle.report.proofs.line.Line.push.Needs as need
 
 pub returns : need.returns
 returns c =
-  let line = c .args .self .now in
-  let after = c .copy-from-slice .ensures .after in
-  let written =
+    let line = c .args .self .now in
+    let after = c .copy-from-slice .ensures .after in
+    let written =
     take-putMid (line .len) _ (line .bytes) (c .copy-from-slice .last .self) _ (ap (λ ys. line .len + length ys) (sym after)) (omega arith)
-      ∙ ap (λ ys. take (line .len) (line .bytes) ++ ys) after in
-  record { written = written; long = ap length written ∙ length-append (text line) (c .args .more .now) }
+    ∙ ap (λ ys. take (line .len) (line .bytes) ++ ys) after in
+    record { written = written; long = ap length written ∙ length-append (text line) (c .args .more .now) }
