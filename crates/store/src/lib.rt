@@ -1,0 +1,4 @@
+// Stores of checkpoints, by what they mean.
+pub mod refusal;
+pub mod slots;
+pub mod traits;
