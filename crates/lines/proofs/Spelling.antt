@@ -15,7 +15,8 @@ use Rattle.std.specs.declared.option.Option.the-variants.{Some, None}
 use Rattle.std.proofs.shelf.Decimals.{digits-decimal, value-decimal, decimal-value, decimal-some, first-decimal, decimal-digit}
 use Rattle.std.proofs.shelf.Numerals.{Numerals, numerals-by-fold, tells-allDigits}
 use Rattle.std.proofs.shelf.Lists.{append-nil, append-assoc}
-use Rattle.std.proofs.shelf.Tests.{false≢true, cond-true, cond-false, lt-ltb, ltb-true, and-from, and-parts, ne-eqb, eqb-true, eqb-false, not-true, not-from-false, eq-eqb}
+use Rattle.std.proofs.shelf.Tests.{false≢true, cond-true, cond-false, lt-ltb, ltb-true, and-from, and-parts, ne-eqb}
+use Rattle.std.proofs.shelf.Tests.{eqb-true, eqb-false, not-true, not-from-false, eq-eqb}
 use Rattle.lines.specs.Lines.{andThen, byte, field}
 use Rattle.lines.specs.Spelling.{spellField}
 use Rattle.lines.specs.Numbers.{digits, afterDigits, valueFrom, plain, isNumber, number}

@@ -14,7 +14,8 @@ use Rattle.std.specs.declared.result.Result.the-variants.{Ok, Err}
 use Rattle.std.proofs.shelf.Lists.{append-nil, append-assoc, length-append, length-push, take-at, drop-at, length-drop, getD-take, getD-append-add}
 use Rattle.std.proofs.shelf.Tests.{leb-true}
 use Rattle.report.specs.Lines.{turnLine, boardLine, endLine}
-use Rattle.report.specs.Reports.{Answer, BoardFacts, turnLinesFrom, turnLines, boardLines, report, Begins, TurnsWritten, BoardsWritten, ReportWritten, TurnFollows, BoardFollows, EndFollows}
+use Rattle.report.specs.Reports.{Answer, BoardFacts, turnLinesFrom, turnLines, boardLines, report}
+use Rattle.report.specs.Reports.{Begins, TurnsWritten, BoardsWritten, ReportWritten, TurnFollows, BoardFollows, EndFollows}
 use Rattle.report.specs.Writers.{begun, refused, tried, fits, after, turnTried, boardsBegun, boardTried, endTried}
 use Rattle.report.specs.declared.writer.BoardLines.{BoardLines}
 use Rattle.report.specs.declared.writer.NotWritten.{NotWritten}
@@ -30,7 +31,9 @@ ok-same : {A E : Type 0} {x y : A} → _≡_ {A = Result A E} (Ok x) (Ok y) → 
 ok-same h = cc
 
 -- what stood at the front, and the line behind it
-begins-more : (out front line : List ℕ) (at : ℕ) → at ≡ length front → Begins out front → at + length line ≤ length out → Begins (written out at line) (front ++ line)
+begins-more :
+    (out front line : List ℕ) (at : ℕ) → at ≡ length front → Begins out front → at + length line ≤ length out →
+    Begins (written out at line) (front ++ line)
 begins-more out front line at e b room =
     let long : length (front ++ line) ≡ at + length line = length-append front line ∙ ap (λ n. n + length line) (sym e) in
     let same : take at out ≡ front = ap (λ n. take n out) e ∙ b .front in
@@ -38,7 +41,11 @@ begins-more out front line at e b room =
     ap (λ xs. xs ++ (line ++ drop (at + length line) out)) same ∙ sym (append-assoc front line (drop (at + length line) out)) in
     let total : length (written out at line) ≡ length out =
     ap length whole ∙ length-append (front ++ line) (drop (at + length line) out) ∙ (omega (arith, long, length-drop (at + length line) out)) in
-    record { within = omega (arith, long, total, room); front = ap (take (length (front ++ line))) whole ∙ take-at (front ++ line) (drop (at + length line) out) _ refl }
+    let past : List ℕ = drop (at + length line) out in
+    record {
+      within = omega (arith, long, total, room);
+      front = ap (take (length (front ++ line))) whole ∙ take-at (front ++ line) past _ refl;
+    }
 
 turns-push : (n : ℕ) (ts : List Answer) (a : Answer)
     → turnLinesFrom n (ts ++ a ∷ []) ≡ turnLinesFrom n ts ++ turnLine (n + length ts + 1) (a .number) (a .kind)
@@ -51,7 +58,9 @@ turns-push n (b ∷ ts) a =
 boards-push : (bs : List BoardFacts) (b : BoardFacts)
     → boardLines (bs ++ b ∷ []) ≡ boardLines bs ++ boardLine (b .board) (b .state) (b .spelling)
 boards-push [] b = append-nil _
-boards-push (c ∷ bs) b = ap (λ xs. boardLine (c .board) (c .state) (c .spelling) ++ xs) (boards-push bs b) ∙ sym (append-assoc (boardLine (c .board) (c .state) (c .spelling)) (boardLines bs) _)
+boards-push (c ∷ bs) b =
+    let line : List ℕ = boardLine (c .board) (c .state) (c .spelling) in
+    ap (λ xs. line ++ xs) (boards-push bs b) ∙ sym (append-assoc line (boardLines bs) _)
 
 -- a line that was taken fits, and the writer goes on
 tried-ok : {V W : Type 0} (full fit : Bool) (w : W) (next v : V) → Ok v ≡ tried full fit w next → (v ≡ next) × (fit ≡ true)
@@ -67,7 +76,7 @@ turns-more w out ts a h =
 
 pub turn-follows : (w : TurnLines) (out : List ℕ) (a : Answer) (r : Result TurnLines (NotWritten TurnLines)) (out′ : List ℕ)
     → r ≡ turnTried w out (turnLine (w .turns + 1) (a .number) (a .kind))
-    → out′ ≡ after r (written out (w .at) (turnLine (w .turns + 1) (a .number) (a .kind))) out → TurnFollows w out a r out′
+    → out′ ≡ after r (w .at) (turnLine (w .turns + 1) (a .number) (a .kind)) out → TurnFollows w out a r out′
 turn-follows w out a (Err e) out′ answer memory ts h = tt
 turn-follows w out a (Ok v) out′ answer memory ts h =
     let line : List ℕ = turnLine (w .turns + 1) (a .number) (a .kind) in
@@ -97,7 +106,7 @@ boards-follow w out ts h =
 
 pub board-follows : (w : BoardLines) (out : List ℕ) (b : BoardFacts) (r : Result BoardLines (NotWritten BoardLines)) (out′ : List ℕ)
     → r ≡ boardTried w out (boardLine (b .board) (b .state) (b .spelling))
-    → out′ ≡ after r (written out (w .at) (boardLine (b .board) (b .state) (b .spelling))) out → BoardFollows w out b r out′
+    → out′ ≡ after r (w .at) (boardLine (b .board) (b .state) (b .spelling)) out → BoardFollows w out b r out′
 board-follows w out b (Err e) out′ answer memory ts bs h = tt
 board-follows w out b (Ok v) out′ answer memory ts bs h =
     let line : List ℕ = boardLine (b .board) (b .state) (b .spelling) in
@@ -143,7 +152,7 @@ first-in out ts bs b h =
     some-after xs ys h = omega (arith, length-append xs ys)
 
 pub end-follows : (w : BoardLines) (out : List ℕ) (r : Result Report (NotWritten BoardLines)) (out′ : List ℕ)
-    → r ≡ endTried w out (endLine (w .turns) (w .offset)) → out′ ≡ after r (written out (w .at) (endLine (w .turns) (w .offset))) out
+    → r ≡ endTried w out (endLine (w .turns) (w .offset)) → out′ ≡ after r (w .at) (endLine (w .turns) (w .offset)) out
     → EndFollows w out r out′
 end-follows w out (Err e) out′ answer memory ts bs h = tt
 end-follows w out (Ok v) out′ answer memory ts bs h =

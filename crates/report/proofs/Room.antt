@@ -17,7 +17,8 @@ use Rattle.std.proofs.shelf.Tests.{le-leb, lt-leb}
 use Rattle.records.specs.declared.feed.Feed.{Feed}
 use Rattle.records.specs.declared.harness.Harness.{Harness}
 use Rattle.report.specs.Lines.{harnessText, feedText, stateNumber, turnLine, boardLine, endLine}
-use Rattle.report.specs.Reports.{Answer, BoardFacts, turnLinesFrom, turnLines, boardLines, report, TurnsWritten, BoardsWritten, SmallAnswer, ShortBoard, TurnFits, BoardFits, EndFits}
+use Rattle.report.specs.Reports.{Answer, BoardFacts, turnLinesFrom, turnLines, boardLines, report, TurnsWritten, BoardsWritten}
+use Rattle.report.specs.Reports.{SmallAnswer, ShortBoard, TurnFits, BoardFits, EndFits}
 use Rattle.report.specs.Writers.{tried, refused, fits, turnTried, boardTried, endTried}
 use Rattle.report.specs.declared.state.BoardState.{BoardState}
 use Rattle.report.specs.declared.state.BoardState.the-variants.{Free, Held, Lost, Stopped}

@@ -6,6 +6,7 @@ use lib.Dec.{leb}
 use lib.ListN.{length}
 use Rattle.std.specs.declared.result.Result.{Result}
 use Rattle.std.specs.declared.result.Result.the-variants.{Ok, Err}
+use Rattle.report.specs.Writing.{written}
 use Rattle.report.specs.declared.writer.BoardLines.{BoardLines}
 use Rattle.report.specs.declared.writer.NotWritten.{NotWritten}
 use Rattle.report.specs.declared.writer.Report.{Report}
@@ -33,10 +34,10 @@ tried full fits w next = cond full (refused TooManyLines w) (cond fits (Ok next)
 abbrev pub fits : ℕ → List ℕ → List ℕ → Bool
 fits at line out = leb (at + length line) (length out)
 
--- the memory: changed where the line was written
-abbrev pub after : {V E : Type 0} → Result V E → List ℕ → List ℕ → List ℕ
-after (Ok v) new old = new
-after (Err e) new old = old
+-- the memory: with the line at its place where it was written, else as it was
+abbrev pub after : {V E : Type 0} → Result V E → ℕ → List ℕ → List ℕ → List ℕ
+after (Ok v) at line out = written out at line
+after (Err e) at line out = out
 
 -- at most 4,096 turn lines
 abbrev pub turnTried : TurnLines → List ℕ → List ℕ → Result TurnLines (NotWritten TurnLines)

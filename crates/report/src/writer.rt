@@ -5,9 +5,9 @@ ghost use mathlib.Core.List.{List, []};
 ghost use Prim.Native.Nat.{ℕ, _+_, _≤_};
 ghost use lib.ListN.{length};
 ghost use Rattle.report.specs.Lines.{turnLine, boardLine, endLine};
-ghost use Rattle.report.specs.Reports.{Answer, TurnsWritten, BoardsWritten, TurnFollows, BoardFollows, EndFollows, TurnFits, BoardFits, EndFits, answered, told};
+ghost use Rattle.report.specs.Reports.{Answer, TurnsWritten, BoardsWritten, answered, told};
+ghost use Rattle.report.specs.Reports.{TurnFollows, BoardFollows, EndFollows, TurnFits, BoardFits, EndFits};
 ghost use Rattle.report.specs.Writers.{begun, turnTried, boardsBegun, boardTried, endTried, after, refusalNumber};
-ghost use Rattle.report.specs.Writing.{written};
 use crate::lines::board_line;
 use crate::lines::end_line;
 use crate::lines::turn_line;
@@ -84,7 +84,7 @@ impl TurnLines {
         kind: u32,
     ) -> Result<TurnLines, NotWritten<TurnLines>>
         ensures answer { λ r. ⌜ r ≡ turnTried self (now (out .entry)) (turnLine (self .turns + 1) answer kind) ⌝ }
-        ensures memory { λ r. ⌜ now (out .exit) ≡ after r (written (now (out .entry)) (self .at) (turnLine (self .turns + 1) answer kind)) (now (out .entry)) ⌝ }
+        ensures memory { λ r. ⌜ now (out .exit) ≡ after r (self .at) (turnLine (self .turns + 1) answer kind) (now (out .entry)) ⌝ }
     {
         if self.turns >= MAX_TURNS {
             return Err(NotWritten {
@@ -115,7 +115,7 @@ impl TurnLines {
         kind: u32,
     ) -> Result<TurnLines, NotWritten<TurnLines>>
         ensures answer { λ r. ⌜ r ≡ turnTried self (now (out .entry)) (turnLine (self .turns + 1) answer kind) ⌝ }
-        ensures memory { λ r. ⌜ now (out .exit) ≡ after r (written (now (out .entry)) (self .at) (turnLine (self .turns + 1) answer kind)) (now (out .entry)) ⌝ }
+        ensures memory { λ r. ⌜ now (out .exit) ≡ after r (self .at) (turnLine (self .turns + 1) answer kind) (now (out .entry)) ⌝ }
         ensures follows { λ r. ⌜ TurnFollows self (now (out .entry)) (answered answer kind) r (now (out .exit)) ⌝ }
         ensures fits { λ r. ⌜ TurnFits self (now (out .entry)) (answered answer kind) r ⌝ }
     {
@@ -145,7 +145,7 @@ impl BoardLines {
         of: R,
     ) -> Result<BoardLines, NotWritten<BoardLines>>
         ensures answer { λ r. ⌜ r ≡ boardTried self (now (out .entry)) (boardLine board state (R·Spelled .spelled of)) ⌝ }
-        ensures memory { λ r. ⌜ now (out .exit) ≡ after r (written (now (out .entry)) (self .at) (boardLine board state (R·Spelled .spelled of))) (now (out .entry)) ⌝ }
+        ensures memory { λ r. ⌜ now (out .exit) ≡ after r (self .at) (boardLine board state (R·Spelled .spelled of)) (now (out .entry)) ⌝ }
         ensures short { λ _. ⌜ length (R·Spelled .spelled of) ≤ 30 ⌝ }
     {
         let line = board_line(board, state, of);
@@ -179,7 +179,7 @@ impl BoardLines {
         of: R,
     ) -> Result<BoardLines, NotWritten<BoardLines>>
         ensures answer { λ r. ⌜ r ≡ boardTried self (now (out .entry)) (boardLine board state (R·Spelled .spelled of)) ⌝ }
-        ensures memory { λ r. ⌜ now (out .exit) ≡ after r (written (now (out .entry)) (self .at) (boardLine board state (R·Spelled .spelled of))) (now (out .entry)) ⌝ }
+        ensures memory { λ r. ⌜ now (out .exit) ≡ after r (self .at) (boardLine board state (R·Spelled .spelled of)) (now (out .entry)) ⌝ }
         ensures follows { λ r. ⌜ BoardFollows self (now (out .entry)) (told board state (R·Spelled .spelled of)) r (now (out .exit)) ⌝ }
         ensures fits { λ r. ⌜ BoardFits self (now (out .entry)) (told board state (R·Spelled .spelled of)) r ⌝ }
         ensures short { λ _. ⌜ length (R·Spelled .spelled of) ≤ 30 ⌝ }
@@ -189,7 +189,7 @@ impl BoardLines {
 
     fn try_end(self, out: &mut [u8]) -> Result<Report, NotWritten<BoardLines>>
         ensures answer { λ r. ⌜ r ≡ endTried self (now (out .entry)) (endLine (self .turns) (self .offset)) ⌝ }
-        ensures memory { λ r. ⌜ now (out .exit) ≡ after r (written (now (out .entry)) (self .at) (endLine (self .turns) (self .offset))) (now (out .entry)) ⌝ }
+        ensures memory { λ r. ⌜ now (out .exit) ≡ after r (self .at) (endLine (self .turns) (self .offset)) (now (out .entry)) ⌝ }
     {
         let line = end_line(self.turns, self.offset);
         if !put_bytes(out, self.at, line.as_slice()) {
@@ -206,7 +206,7 @@ impl BoardLines {
     // The last line, which points back to the first board line.
     pub fn end(self, out: &mut [u8]) -> Result<Report, NotWritten<BoardLines>>
         ensures answer { λ r. ⌜ r ≡ endTried self (now (out .entry)) (endLine (self .turns) (self .offset)) ⌝ }
-        ensures memory { λ r. ⌜ now (out .exit) ≡ after r (written (now (out .entry)) (self .at) (endLine (self .turns) (self .offset))) (now (out .entry)) ⌝ }
+        ensures memory { λ r. ⌜ now (out .exit) ≡ after r (self .at) (endLine (self .turns) (self .offset)) (now (out .entry)) ⌝ }
         ensures follows { λ r. ⌜ EndFollows self (now (out .entry)) r (now (out .exit)) ⌝ }
         ensures fits { λ r. ⌜ EndFits self (now (out .entry)) r ⌝ }
     {

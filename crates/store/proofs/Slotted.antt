@@ -12,7 +12,8 @@ use Rattle.std.specs.declared.option.Option.{Option}
 use Rattle.std.specs.declared.option.Option.the-variants.{Some, None}
 use Rattle.std.specs.declared.result.Result.{Result}
 use Rattle.std.specs.declared.result.Result.the-variants.{Ok, Err}
-use Rattle.store.specs.Meaning.{Answer, Kept, Meaning, updated, standingAt, standingOf, pendingAt, pendingOf, putAt, putUnder, putAnswer, putAfter, putting, keepAt, keepUnder, keepAnswer, keepAfter, keeping, orElse, discarding, discardAfter}
+use Rattle.store.specs.Meaning.{Answer, Kept, Meaning, updated, standingAt, standingOf, pendingAt, pendingOf, putAt, putUnder}
+use Rattle.store.specs.Meaning.{putAnswer, putAfter, putting, keepAt, keepUnder, keepAnswer, keepAfter, keeping, orElse, discarding, discardAfter}
 use Rattle.store.specs.Slots.{pair, pairs, slotMeaning, filled}
 use Rattle.store.specs.declared.slots.Slot.{Slot}
 use Rattle.store.specs.declared.refusal.StoreRefusal.{StoreRefusal}

@@ -38,6 +38,10 @@ abbrev pub freshSlots : {R : Type 0} → R → ℕ → List (Slot R)
 freshSlots first zero = []
 freshSlots first (suc n) = filled true first ∷ filled false first ∷ freshSlots first n
 
+-- a board's two places as in a new store
+abbrev pub clearedAt : {R : Type 0} → R → List (Slot R) → ℕ → List (Slot R)
+clearedAt first xs p = set (set xs (2 * p) (filled true first)) (2 * p + 1) (filled false first)
+
 -- why a slot store is not made: of 0 or over 64 boards, then of fewer than two places a board
 abbrev pub slotsRefused : ℕ → ℕ → Option MakeRefusal
 slotsRefused places n = cond (eqb n 0 || ltb 64 n) (Some BadCount) (cond (ltb places (2 * n)) (Some BadRoom) None)

@@ -7,7 +7,7 @@ ghost use lib.Dec.{lit≤};
 ghost use lib.ListN.{length, set, take, drop};
 ghost use denote.Ref.{now, name};
 ghost use Rattle.store.specs.Meaning.{standingOf, pendingOf, putAnswer, putAfter, keepAnswer, keepAfter, discardAfter};
-ghost use Rattle.store.specs.Slots.{slotMeaning, filled, freshMeaning, freshSlots, slotsRefused, prepared, putSlots, keepSlots, discardSlots};
+ghost use Rattle.store.specs.Slots.{slotMeaning, filled, clearedAt, freshMeaning, freshSlots, slotsRefused, prepared, putSlots, keepSlots, discardSlots};
 ghost use Rattle.std.specs.Finite.{nth};
 ghost use Rattle.std.specs.Results.{errPart};
 ghost use Rattle.std.specs.Vec.{made};
@@ -121,7 +121,7 @@ pub struct SlotStore<'a, R: Part> {
 // Puts the first record into the places of one board, standing and not pending.
 fn clear_board<R: Part>(slots: &mut [Slot<R>], board: usize)
     requires { ⌜ 2 * board + 1 < length (now slots) ⌝ }
-    ensures { λ _. ⌜ now (slots .exit) ≡ set (set (now (slots .entry)) (2 * board) (filled true (R·Part .rules .first))) (2 * board + 1) (filled false (R·Part .rules .first)) ⌝ }
+    ensures { λ _. ⌜ now (slots .exit) ≡ clearedAt (R·Part .rules .first) (now (slots .entry)) board ⌝ }
 {
     let first = R::first();
     fill(slots, 2 * board, true, first);

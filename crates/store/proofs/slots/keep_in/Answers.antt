@@ -27,13 +27,14 @@ returns g c =
     let p = c .args .board in
     let first = g .R·Part .rules .first in
     let e = keep-taken xs p _ (c .slot-at-pending .ensures) (c .if-not-pending .left) in
+    let read = ap (stateOr first) (c .slot-at-pending .ensures) in
     let written = c .fill-2 .ensures ∙ ap (λ l. set l (2 * p + 1) (filled false (c .first .result))) (c .fill .ensures) in
     record {
       answer = e;
       after = ap slotMeaning written ∙ keep-after xs p _ (c .slot-at-pending .ensures) (c .first .result) (c .if-not-pending .left);
       memory =
           written
-          ∙ ap (λ r. set (set xs (2 * p) (filled true r)) (2 * p + 1) (filled false (c .first .result))) (sym (ap (stateOr first) (c .slot-at-pending .ensures)))
+          ∙ ap (λ r. set (set xs (2 * p) (filled true r)) (2 * p + 1) (filled false (c .first .result))) (sym read)
           ∙ ap (λ r. set (set xs (2 * p) (filled true (stateOr first (nth xs (2 * p + 1))))) (2 * p + 1) (filled false r)) (c .first .ensures)
           ∙ by-answer _ _ _ _ e;
     }

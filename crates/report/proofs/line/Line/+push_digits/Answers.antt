@@ -20,7 +20,9 @@ push-requires t c κs = let some = decimal-some (c .args .n) (omega arith) in om
 pub returns-then-n-lt10 : need.returns-then-n-lt10
 returns-then-n-lt10 t c =
     let one : decimal (c .args .n) ≡ (48 + c .args .n) ∷ [] = decimal-digit (c .args .n) (c .if-n-lt10 .taken) in
-    c .push .ensures .written ∙ ap (λ d. text (c .args .self .now) ++ (48 + d) ∷ []) (mod-eq-of-lt (c .if-n-lt10 .taken)) ∙ ap (λ ds. text (c .args .self .now) ++ ds) (sym one)
+    c .push .ensures .written
+    ∙ ap (λ d. text (c .args .self .now) ++ (48 + d) ∷ []) (mod-eq-of-lt (c .if-n-lt10 .taken))
+    ∙ ap (λ ds. text (c .args .self .now) ++ ds) (sym one)
 
 pub push-digits-requires : need.push-digits-requires
 push-digits-requires t c κs =

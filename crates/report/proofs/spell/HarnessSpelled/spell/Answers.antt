@@ -19,5 +19,11 @@ returns c =
     (piece (decimal (c .args .self .lifted))
     (piece (codes " ")
     (piece (decimal (c .args .self .pick))
-    (begun (c .new-line .ensures .written)) (c .push-decimal .ensures .written)) (c .push .ensures .written)) (c .push-decimal-2 .ensures .written)) (c .push-2 .ensures .written)) (c .push-hex .ensures .written) in
-    record { written = written; short = subst (λ (xs : List ℕ). length xs ≤ 30) (sym written) (harness-short (c .args .self) (omega arith) (omega arith)) }
+    (begun (c .new-line .ensures .written))
+    (c .push-decimal .ensures .written))
+    (c .push .ensures .written))
+    (c .push-decimal-2 .ensures .written))
+    (c .push-2 .ensures .written))
+    (c .push-hex .ensures .written) in
+    let short = harness-short (c .args .self) (omega arith) (omega arith) in
+    record { written = written; short = subst (λ (xs : List ℕ). length xs ≤ 30) (sym written) short }

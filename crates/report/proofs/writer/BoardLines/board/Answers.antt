@@ -4,11 +4,13 @@ use Rattle.report.proofs.Reports.{board-follows}
 use Rattle.report.proofs.writer.BoardLines.board.Needs as need
 
 pub returns : need.returns
-returns g c = record {
-  answer = c .try-board .ensures .answer;
-  memory = c .try-board .ensures .memory;
-  follows = board-follows (c .args .self) (c .args .out .now) (told (c .args .board) (c .args .state) (g .R·Spelled .spelled (c .args .of))) (c .try-board .result) (c .try-board .last .out)
-      (c .try-board .ensures .answer) (c .try-board .ensures .memory);
-  fits = board-fits (c .args .self) (c .args .out .now) (told (c .args .board) (c .args .state) (g .R·Spelled .spelled (c .args .of))) (c .try-board .result) (c .try-board .ensures .answer);
-  short = c .try-board .ensures .short;
-}
+returns g c =
+    let facts = told (c .args .board) (c .args .state) (g .R·Spelled .spelled (c .args .of)) in
+    let answer = c .try-board .ensures .answer in
+    record {
+      answer = answer;
+      memory = c .try-board .ensures .memory;
+      follows = board-follows (c .args .self) (c .args .out .now) facts (c .try-board .result) (c .try-board .last .out) answer (c .try-board .ensures .memory);
+      fits = board-fits (c .args .self) (c .args .out .now) facts (c .try-board .result) answer;
+      short = c .try-board .ensures .short;
+    }
