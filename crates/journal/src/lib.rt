@@ -1,0 +1,3 @@
+// The journal: a store that only ever appends entries to memory handed to it.
+pub mod entry;
+mod log;
