@@ -1,3 +1,4 @@
 // The journal: a store that only ever appends entries to memory handed to it.
 pub mod entry;
+mod journal;
 mod log;

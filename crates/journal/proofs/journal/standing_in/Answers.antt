@@ -1,0 +1,15 @@
+use mathlib.Core.Path.{sym, ap, _∙_}
+use Rattle.journal.specs.Logs.{keptOf}
+use Rattle.std.specs.declared.result.Result.the-variants.{Ok}
+use Rattle.journal.proofs.Asked.{standing-none, standing-some}
+use Rattle.journal.proofs.journal.standing_in.Needs as need
+
+pub returns-then-board-boards : need.returns-then-board-boards
+returns-then-board-boards g c =
+  standing-none (g .R·Part .rules .first) (c .args .entries .now) (c .args .used) (c .args .boards) (c .args .board) (c .if-board-boards .taken)
+
+pub returns : need.returns
+returns g c =
+  let first = g .R·Part .rules .first in
+  standing-some first (c .args .entries .now) (c .args .used) (c .args .boards) (c .args .board) (c .kept-in-found .result) (c .if-board-boards .left)
+    (c .kept-in-found .ensures ∙ ap (λ log. keptOf first log (c .args .board)) (c .log-of .ensures))

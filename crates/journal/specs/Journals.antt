@@ -1,0 +1,38 @@
+-- What a journal means. It has C places, of which U are used; K of its boards have a record pending.
+use mathlib.Core.Bool.{Bool, true, false, cond, _||_}
+use mathlib.Core.List.{List, [], _∷_, map}
+use Prim.Native.Nat.{ℕ, _+_, _-_, _/_}
+use lib.Dec.{eqb, ltb, leb}
+use lib.ListN.{length, take, set}
+use Rattle.std.specs.Iters.{counting}
+use Rattle.std.specs.Results.{isOk}
+use Rattle.store.specs.Meaning.{Kept, Meaning, discarding, putAnswer, keepAnswer}
+use Rattle.journal.specs.Logs.{keptOf, keptAll, pendingCount, latestFrom}
+use Rattle.journal.specs.declared.entry.Entry.{Entry}
+use Rattle.journal.specs.declared.entry.EntryKind.{EntryKind}
+use Rattle.journal.specs.declared.entry.EntryKind.the-variants.{Put, Keep, Discard}
+
+-- K, by the used entries
+abbrev pub pendings : {R : Type 0} → R → List (Entry R) → ℕ → ℕ → ℕ
+pendings first entries used n = pendingCount (keptAll first (take used entries) n)
+
+-- every pending record has a place left for the entry that ends it
+abbrev pub roomy : {R : Type 0} → R → List (Entry R) → ℕ → ℕ → Bool
+roomy first entries used n = leb (used + pendings first entries used n) (length entries)
+
+-- where some has none, nothing counts as pending (making and the calls never come to that)
+abbrev pub counted : {R : Type 0} → Bool → Kept R → Kept R
+counted b k = cond b k (discarding k)
+
+abbrev pub keptAt : {R : Type 0} → R → List (Entry R) → ℕ → ℕ → ℕ → Kept R
+keptAt first entries used n p = counted (roomy first entries used n) (keptOf first (take used entries) p)
+
+-- the spare is (C - U - K) / 2
+abbrev pub journalMeaning : {R : Type 0} → R → List (Entry R) → ℕ → ℕ → Meaning R
+journalMeaning first entries used n = record {
+  boards = map (keptAt first entries used n) (counting 0 n);
+  spare = (length entries - used - pendings first entries used n) / 2 }
+
+-- the entry that a call appends: it points back to the board's latest entry
+abbrev pub entryOf : {R : Type 0} → ℕ → EntryKind → R → List (Entry R) → Entry R
+entryOf p kind r log = record { board = p; kind = kind; state = r; back = latestFrom p (length log) 0 log }
