@@ -63,3 +63,12 @@ module _ {A : Type 0} where
     let was = sumBy-cons w y ys in
     let is = sumBy-cons w y (updated g ys p) in
     omega (arith, more, was, is)
+
+  -- one board's share of a sum
+  pub sum-has : (w : A → ℕ) (xs : List A) (p : ℕ) (x : A) → nth xs p ≡ Some x → w x ≤ sumBy w xs
+  sum-has w [] p x e = absurd (let z : _≡_ {A = ℕ} 0 1 = cc in omega arith)
+  sum-has w (y ∷ ys) zero x e =
+    let same : y ≡ x = cc in
+    let wy = ap w same in
+    omega (arith, wy, sumBy-cons w y ys)
+  sum-has w (y ∷ ys) (suc p) x e = let more = sum-has w ys p x e in omega (arith, more, sumBy-cons w y ys)

@@ -1,3 +1,5 @@
 pub mod Boards
 pub mod Asked
 pub mod Appended
+pub mod Answered
+pub mod Calls
