@@ -5,8 +5,9 @@ use Prim.Native.Nat.{ℕ, _+_, _-_, _/_}
 use lib.Dec.{eqb, ltb, leb}
 use lib.ListN.{length, take, set}
 use Rattle.std.specs.Iters.{counting}
-use Rattle.std.specs.Results.{isOk}
-use Rattle.store.specs.Meaning.{Kept, Meaning, discarding, putAnswer, keepAnswer}
+use Rattle.std.specs.declared.result.Result.{Result}
+use Rattle.std.specs.declared.result.Result.the-variants.{Ok, Err}
+use Rattle.store.specs.Meaning.{Kept, Meaning, discarding}
 use Rattle.journal.specs.Logs.{keptOf, keptAll, pendingCount, latestFrom}
 use Rattle.journal.specs.declared.entry.Entry.{Entry}
 use Rattle.journal.specs.declared.entry.EntryKind.{EntryKind}
@@ -36,3 +37,13 @@ journalMeaning first entries used n = record {
 -- the entry that a call appends: it points back to the board's latest entry
 abbrev pub entryOf : {R : Type 0} → ℕ → EntryKind → R → List (Entry R) → Entry R
 entryOf p kind r log = record { board = p; kind = kind; state = r; back = latestFrom p (length log) 0 log }
+
+-- the memory after a call: the entry at the first unused place where it was taken, else as it was
+abbrev pub appended : {V E R : Type 0} → Result V E → List (Entry R) → ℕ → Entry R → List (Entry R)
+appended (Ok v) entries used e = set entries used e
+appended (Err x) entries used e = entries
+
+-- how many places are used after it
+abbrev pub usedAfter : {V E : Type 0} → Result V E → ℕ → ℕ
+usedAfter (Ok v) used = used + 1
+usedAfter (Err x) used = used

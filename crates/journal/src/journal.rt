@@ -1,11 +1,18 @@
 // A store that only ever appends: each put, keep and drop is an entry behind those before it.
+ghost use mathlib.Core.Bool.{true};
 ghost use mathlib.Core.Path.{_≡_};
-ghost use lib.ListN.{take};
-ghost use Rattle.journal.specs.Journals.{journalMeaning, roomy};
-ghost use Rattle.store.specs.Meaning.{standingOf, pendingOf};
+ghost use Prim.Native.Nat.{_<_};
+ghost use lib.ListN.{length, take, set};
+ghost use Rattle.journal.specs.Journals.{journalMeaning, roomy, entryOf, appended, usedAfter};
+ghost use Rattle.journal.specs.declared.entry.EntryKind.the-variants.{Put};
+ghost use Rattle.std.specs.Vec.{made};
+ghost use Rattle.std.specs.declared.result.Result.the-variants.{Ok};
+ghost use Rattle.store.specs.Meaning.{standingOf, pendingOf, putAnswer, putAfter, keepAnswer};
 use crate::entry::Entry;
+use crate::entry::EntryKind;
 use crate::log::count_pending;
 use crate::log::kept_in;
+use crate::log::latest_of;
 use records::part::Part;
 use store::refusal::StoreRefusal;
 
@@ -53,4 +60,51 @@ fn pending_in<R: Part>(entries: &[Entry<R>], used: usize, boards: usize, board: 
     }
     let found = kept_in(log_of(entries, used), board);
     Ok(found.1.is_some())
+}
+
+// Writes an entry into the first place that is not used.
+fn append<R: Part>(entries: &mut [Entry<R>], used: usize, board: usize, kind: EntryKind, state: R)
+    requires { ⌜ used < length (now entries) ⌝ }
+    ensures { λ _. ⌜ now (entries .exit) ≡ set (now (entries .entry)) used (entryOf board kind state (take used (now (entries .entry)))) ⌝ }
+{
+    let back = latest_of(log_of(entries, used), board);
+    entries[used] = Entry { board, kind, state, back };
+}
+
+fn put_in<R: Part>(entries: &mut [Entry<R>], used: usize, boards: usize, board: usize, state: R) -> Result<(), StoreRefusal>
+    ensures answer { λ r. ⌜ r ≡ putAnswer (journalMeaning (R·Part .rules .first) (now (entries .entry)) used boards) board ⌝ }
+    ensures memory { λ r. ⌜ now (entries .exit) ≡ appended r (now (entries .entry)) used (entryOf board Put state (take used (now (entries .entry)))) ⌝ }
+    ensures after { λ r. ⌜ journalMeaning (R·Part .rules .first) (now (entries .exit)) (usedAfter r used) boards ≡ putAfter 1 (journalMeaning (R·Part .rules .first) (now (entries .entry)) used boards) board state ⌝ }
+    ensures room { λ r. ⌜ made r (λ _. used < length (now (entries .entry))) ⌝ }
+{
+    let pending = match pending_in(entries, used, boards, board) {
+        Ok(pending) => pending,
+        Err(refusal) => return Err(refusal),
+    };
+    if pending {
+        return Err(StoreRefusal::WrongPending);
+    }
+    if spare_in(entries, used, boards) == 0 {
+        return Err(StoreRefusal::NoSpare);
+    }
+    append(entries, used, board, EntryKind::Put, state);
+    Ok(())
+}
+
+// Ends a pending record by an entry of this kind, which holds the first record.
+fn end_in<R: Part>(entries: &mut [Entry<R>], used: usize, boards: usize, board: usize, kind: EntryKind) -> Result<(), StoreRefusal>
+    ensures answer { λ r. ⌜ r ≡ keepAnswer (journalMeaning (R·Part .rules .first) (now (entries .entry)) used boards) board ⌝ }
+    ensures memory { λ r. ⌜ now (entries .exit) ≡ appended r (now (entries .entry)) used (entryOf board kind (R·Part .rules .first) (take used (now (entries .entry)))) ⌝ }
+    ensures pending { λ r. ⌜ made r (λ _. Ok true ≡ pendingOf (journalMeaning (R·Part .rules .first) (now (entries .entry)) used boards) board) ⌝ }
+    ensures room { λ r. ⌜ made r (λ _. used < length (now (entries .entry))) ⌝ }
+{
+    let pending = match pending_in(entries, used, boards, board) {
+        Ok(pending) => pending,
+        Err(refusal) => return Err(refusal),
+    };
+    if !pending {
+        return Err(StoreRefusal::WrongPending);
+    }
+    append(entries, used, board, kind, R::first());
+    Ok(())
 }
