@@ -2,4 +2,4 @@ pub mod Boards
 pub mod Asked
 pub mod Appended
 pub mod Answered
-pub mod Calls
+pub mod Means

@@ -1,4 +1,5 @@
 // The journal: a store that only ever appends entries to memory handed to it.
+mod calls;
 pub mod entry;
-mod journal;
 mod log;
+pub mod store;

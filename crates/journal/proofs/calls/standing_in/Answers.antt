@@ -2,7 +2,7 @@ use mathlib.Core.Path.{sym, ap, _∙_}
 use Rattle.journal.specs.Logs.{keptOf}
 use Rattle.std.specs.declared.result.Result.the-variants.{Ok}
 use Rattle.journal.proofs.Asked.{standing-none, standing-some}
-use Rattle.journal.proofs.journal.standing_in.Needs as need
+use Rattle.journal.proofs.calls.standing_in.Needs as need
 
 pub returns-then-board-boards : need.returns-then-board-boards
 returns-then-board-boards g c =

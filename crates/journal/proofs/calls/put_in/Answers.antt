@@ -7,8 +7,8 @@ use Rattle.std.specs.declared.result.Result.the-variants.{Ok}
 use Rattle.journal.specs.Logs.{latestFrom}
 use Rattle.journal.specs.Journals.{journalMeaning}
 use Rattle.journal.proofs.Answered.{put-good}
-use Rattle.journal.proofs.Calls.{put-means, spare-left}
-use Rattle.journal.proofs.journal.put_in.Needs as need
+use Rattle.journal.proofs.Means.{put-means, spare-left}
+use Rattle.journal.proofs.calls.put_in.Needs as need
 
 pub returns : need.returns
 returns g c =

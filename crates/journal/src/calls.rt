@@ -1,4 +1,4 @@
-// A store that only ever appends: each put, keep and drop is an entry behind those before it.
+// The calls of a journal, over its memory: each put, keep and drop is an entry behind those before it.
 ghost use mathlib.Core.Bool.{true};
 ghost use mathlib.Core.Path.{_≡_};
 ghost use Prim.Native.Nat.{_<_};
@@ -23,14 +23,14 @@ fn log_of<R: Part>(entries: &[Entry<R>], used: usize) -> &[Entry<R>]
     if used < entries.len() { &entries[0..used] } else { entries }
 }
 
-fn spare_in<R: Part>(entries: &[Entry<R>], used: usize, boards: usize) -> usize
+pub fn spare_in<R: Part>(entries: &[Entry<R>], used: usize, boards: usize) -> usize
     ensures { λ r. ⌜ r ≡ journalMeaning (R·Part .rules .first) (now (entries .entry)) used boards .spare ⌝ }
 {
     let pending = count_pending(log_of(entries, used), boards);
     entries.len().saturating_sub(used).saturating_sub(pending) / 2
 }
 
-fn standing_in<R: Part>(entries: &[Entry<R>], used: usize, boards: usize, board: usize) -> Result<R, StoreRefusal>
+pub fn standing_in<R: Part>(entries: &[Entry<R>], used: usize, boards: usize, board: usize) -> Result<R, StoreRefusal>
     ensures { λ r. ⌜ r ≡ standingOf (journalMeaning (R·Part .rules .first) (now (entries .entry)) used boards) board ⌝ }
 {
     if board >= boards {
@@ -49,7 +49,7 @@ fn has_room<R: Part>(entries: &[Entry<R>], used: usize, boards: usize) -> bool
 }
 
 // Whether the board has a record pending.
-fn pending_in<R: Part>(entries: &[Entry<R>], used: usize, boards: usize, board: usize) -> Result<bool, StoreRefusal>
+pub fn pending_in<R: Part>(entries: &[Entry<R>], used: usize, boards: usize, board: usize) -> Result<bool, StoreRefusal>
     ensures { λ r. ⌜ r ≡ pendingOf (journalMeaning (R·Part .rules .first) (now (entries .entry)) used boards) board ⌝ }
 {
     if board >= boards {
@@ -71,7 +71,7 @@ fn append<R: Part>(entries: &mut [Entry<R>], used: usize, board: usize, kind: En
     entries[used] = Entry { board, kind, state, back };
 }
 
-fn put_in<R: Part>(entries: &mut [Entry<R>], used: usize, boards: usize, board: usize, state: R) -> Result<(), StoreRefusal>
+pub fn put_in<R: Part>(entries: &mut [Entry<R>], used: usize, boards: usize, board: usize, state: R) -> Result<(), StoreRefusal>
     ensures answer { λ r. ⌜ r ≡ putAnswer (journalMeaning (R·Part .rules .first) (now (entries .entry)) used boards) board ⌝ }
     ensures memory { λ r. ⌜ now (entries .exit) ≡ appended r (now (entries .entry)) used (entryOf board Put state (take used (now (entries .entry)))) ⌝ }
     ensures after { λ r. ⌜ journalMeaning (R·Part .rules .first) (now (entries .exit)) (usedAfter r used) boards ≡ putAfter 1 (journalMeaning (R·Part .rules .first) (now (entries .entry)) used boards) board state ⌝ }
@@ -92,7 +92,7 @@ fn put_in<R: Part>(entries: &mut [Entry<R>], used: usize, boards: usize, board: 
 }
 
 // Ends a pending record by an entry of this kind, which holds the first record.
-fn end_in<R: Part>(entries: &mut [Entry<R>], used: usize, boards: usize, board: usize, kind: EntryKind) -> Result<(), StoreRefusal>
+pub fn end_in<R: Part>(entries: &mut [Entry<R>], used: usize, boards: usize, board: usize, kind: EntryKind) -> Result<(), StoreRefusal>
     ensures answer { λ r. ⌜ r ≡ keepAnswer (journalMeaning (R·Part .rules .first) (now (entries .entry)) used boards) board ⌝ }
     ensures memory { λ r. ⌜ now (entries .exit) ≡ appended r (now (entries .entry)) used (entryOf board kind (R·Part .rules .first) (take used (now (entries .entry)))) ⌝ }
     ensures pending { λ r. ⌜ made r (λ _. Ok true ≡ pendingOf (journalMeaning (R·Part .rules .first) (now (entries .entry)) used boards) board) ⌝ }

@@ -5,8 +5,8 @@ use Rattle.std.specs.declared.result.Result.the-variants.{Ok}
 use Rattle.store.specs.Meaning.{pendingOf}
 use Rattle.journal.specs.Journals.{journalMeaning, entryOf}
 use Rattle.journal.proofs.Answered.{keep-good}
-use Rattle.journal.proofs.Calls.{place-left}
-use Rattle.journal.proofs.journal.end_in.Needs as need
+use Rattle.journal.proofs.Means.{place-left}
+use Rattle.journal.proofs.calls.end_in.Needs as need
 
 pub append-requires : need.append-requires
 append-requires g c κs =
