@@ -3,3 +3,4 @@ pub mod Asked
 pub mod Appended
 pub mod Answered
 pub mod Means
+pub mod Fresh

@@ -1,17 +1,21 @@
 -- What a journal means. It has C places, of which U are used; K of its boards have a record pending.
 use mathlib.Core.Bool.{Bool, true, false, cond, _||_}
-use mathlib.Core.List.{List, [], _∷_, map}
+use mathlib.Core.List.{List, [], _∷_, _++_, map}
 use Prim.Native.Nat.{ℕ, _+_, _-_, _/_}
 use lib.Dec.{eqb, ltb, leb}
-use lib.ListN.{length, take, set}
+use lib.ListN.{length, take, drop, set}
 use Rattle.std.specs.Iters.{counting}
+use Rattle.std.specs.declared.option.Option.{Option}
+use Rattle.std.specs.declared.option.Option.the-variants.{Some, None}
 use Rattle.std.specs.declared.result.Result.{Result}
 use Rattle.std.specs.declared.result.Result.the-variants.{Ok, Err}
 use Rattle.store.specs.Meaning.{Kept, Meaning, discarding}
+use Rattle.store.specs.declared.refusal.MakeRefusal.{MakeRefusal}
+use Rattle.store.specs.declared.refusal.MakeRefusal.the-variants.{BadCount, BadRoom}
 use Rattle.journal.specs.Logs.{keptOf, keptAll, pendingCount, latestFrom}
 use Rattle.journal.specs.declared.entry.Entry.{Entry}
 use Rattle.journal.specs.declared.entry.EntryKind.{EntryKind}
-use Rattle.journal.specs.declared.entry.EntryKind.the-variants.{Put, Keep, Discard}
+use Rattle.journal.specs.declared.entry.EntryKind.the-variants.{First, Put, Keep, Discard}
 
 -- K, by the used entries
 abbrev pub pendings : {R : Type 0} → R → List (Entry R) → ℕ → ℕ → ℕ
@@ -47,3 +51,19 @@ appended (Err x) entries used e = entries
 abbrev pub usedAfter : {V E : Type 0} → Result V E → ℕ → ℕ
 usedAfter (Ok v) used = used + 1
 usedAfter (Err x) used = used
+
+-- the entries of a new journal: each board's first record, which points to itself
+abbrev pub firstEntry : {R : Type 0} → R → ℕ → Entry R
+firstEntry first p = record { board = p; kind = First; state = first; back = p }
+
+abbrev pub freshEntries : {R : Type 0} → R → ℕ → List (Entry R)
+freshEntries first n = map (firstEntry first) (counting 0 n)
+
+-- why a journal is not made: of 0 or over 64 boards, then of fewer places than boards or over 1,024
+abbrev pub journalRefused : ℕ → ℕ → Option MakeRefusal
+journalRefused places n = cond (eqb n 0 || ltb 64 n) (Some BadCount) (cond (ltb places n || ltb 1024 places) (Some BadRoom) None)
+
+-- the memory after making: the entries of a new journal, and what was there past them; at a refusal as it was
+abbrev pub prepared : {R : Type 0} → R → List (Entry R) → ℕ → Option MakeRefusal → List (Entry R)
+prepared first entries n None = freshEntries first n ++ drop n entries
+prepared first entries n (Some why) = entries

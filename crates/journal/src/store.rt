@@ -5,9 +5,11 @@ ghost use mathlib.Core.Path.{_≡_};
 ghost use Prim.Native.Nat.{_+_, _≤_};
 ghost use denote.Ref.{now, name};
 ghost use lib.Dec.{lit≤};
-ghost use lib.ListN.{length, take};
-ghost use Rattle.journal.specs.Journals.{journalMeaning, entryOf, appended, usedAfter};
+ghost use lib.ListN.{length, take, drop};
+ghost use Rattle.journal.specs.Journals.{journalMeaning, entryOf, appended, usedAfter, freshEntries, journalRefused, prepared};
 ghost use Rattle.journal.specs.declared.entry.EntryKind.the-variants.{Put, Keep, Discard};
+ghost use Rattle.std.specs.Results.{errPart};
+ghost use Rattle.std.specs.Vec.{made};
 ghost use Rattle.store.specs.Meaning.{putAnswer, putAfter, keepAnswer, keepAfter, discardAfter};
 use crate::calls::end_in;
 use crate::calls::pending_in;
@@ -17,6 +19,7 @@ use crate::calls::standing_in;
 use crate::entry::Entry;
 use crate::entry::EntryKind;
 use records::part::Part;
+use store::refusal::MakeRefusal;
 use store::refusal::StoreRefusal;
 use store::traits::Store;
 
@@ -28,6 +31,55 @@ pub struct Journal<'a, R: Part> {
     entries: &'a mut [Entry<R>],
     used: usize,
     boards: usize,
+}
+
+// the most boards and places of a journal
+const MAX_BOARDS: usize = 64;
+const MAX_PLACES: usize = 1024;
+
+// Writes the first entry of each board.
+fn clear<R: Part>(entries: &mut [Entry<R>], boards: usize)
+    requires { ⌜ boards ≤ length (now entries) ⌝ }
+    ensures { λ _. ⌜ now (entries .exit) ≡ freshEntries (R·Part .rules .first) boards ++ drop boards (now (entries .entry)) ⌝ }
+{
+    for board in 0..boards {
+        entries[board] = Entry {
+            board,
+            kind: EntryKind::First,
+            state: R::first(),
+            back: board,
+        };
+    }
+}
+
+// Makes the memory's first entries those of a new journal, or refuses, and then leaves it as it was.
+pub fn prepare<R: Part>(entries: &mut [Entry<R>], boards: usize) -> Result<(), MakeRefusal>
+    ensures answer { λ r. ⌜ errPart r ≡ journalRefused (length (now (entries .entry))) boards ⌝ }
+    ensures memory { λ r. ⌜ now (entries .exit) ≡ prepared (R·Part .rules .first) (now (entries .entry)) boards (errPart r) ⌝ }
+{
+    if boards == 0 || boards > MAX_BOARDS {
+        return Err(MakeRefusal::BadCount);
+    }
+    if entries.len() < boards || entries.len() > MAX_PLACES {
+        return Err(MakeRefusal::BadRoom);
+    }
+    clear(entries, boards);
+    Ok(())
+}
+
+impl<'a, R: Part> Journal<'a, R> {
+    // A new journal in the whole of the memory: the first record stands everywhere, and none is pending.
+    pub fn new(entries: &'a mut [Entry<R>], boards: usize) -> Result<Journal<'a, R>, MakeRefusal>
+        ensures answer { λ r. ⌜ errPart r ≡ journalRefused (length (now (entries .entry))) boards ⌝ }
+        ensures places { λ r. ⌜ made r (λ s. (now (s .entries) ≡ freshEntries (R·Part .rules .first) boards ++ drop boards (now (entries .entry))) × (s .used ≡ boards) × (s .boards ≡ boards)) ⌝ }
+    {
+        prepare(entries, boards)?;
+        Ok(Journal {
+            entries,
+            used: boards,
+            boards,
+        })
+    }
 }
 
 pub impl<'a, R: Part> Store for Journal<'a, R> as JournalStore {
