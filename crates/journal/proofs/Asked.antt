@@ -29,19 +29,19 @@ module _ {R : Type 0} (first : R) (entries : List (Entry R)) (used n p : ℕ) wh
   same-standing false k = refl
 
   pub standing-some : (x : R × Option R) → p < n → asKept x ≡ keptOf first (take used entries) p
-    → Ok (x .0) ≡ standingOf (journalMeaning first entries used n) p
+      → Ok (x .0) ≡ standingOf (journalMeaning first entries used n) p
   standing-some x h e =
-    sym (ap standingAt (nth-board (keptAt first entries used n) n p h)
+      sym (ap standingAt (nth-board (keptAt first entries used n) n p h)
       ∙ ap Ok (same-standing (roomy first entries used n) (keptOf first (take used entries) p) ∙ sym (ap (λ k. k .standing) e)))
 
   pub pending-roomless : p < n → roomy first entries used n ≡ false → Ok false ≡ pendingOf (journalMeaning first entries used n) p
   pending-roomless h e =
-    sym (ap pendingAt (nth-board (keptAt first entries used n) n p h)
+      sym (ap pendingAt (nth-board (keptAt first entries used n) n p h)
       ∙ ap (λ b. Ok (isSome (counted b (keptOf first (take used entries) p) .pending))) e)
 
   pub pending-some : (x : R × Option R) → p < n → roomy first entries used n ≡ true → asKept x ≡ keptOf first (take used entries) p
-    → Ok (isSome (x .1)) ≡ pendingOf (journalMeaning first entries used n) p
+      → Ok (isSome (x .1)) ≡ pendingOf (journalMeaning first entries used n) p
   pending-some x h t e =
-    sym (ap pendingAt (nth-board (keptAt first entries used n) n p h)
+      sym (ap pendingAt (nth-board (keptAt first entries used n) n p h)
       ∙ ap (λ b. Ok (isSome (counted b (keptOf first (take used entries) p) .pending))) t
       ∙ ap (λ (k : Kept R). Ok (isSome (k .pending))) (sym e))

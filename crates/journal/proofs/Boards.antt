@@ -34,41 +34,41 @@ module _ {A : Type 0} where
   map-same f h a (suc n) same = λ i. same a (omega arith) i ∷ map-same f h (a + 1) n (λ q l. same q (omega arith)) i
 
   updated-from : (f h : ℕ → A) (g : A → A) (a n p q : ℕ) → a + p ≡ q → ((k : ℕ) → (k ≡ q → ⊥) → h k ≡ f k) → h q ≡ g (f q)
-    → map h (counting a n) ≡ updated g (map f (counting a n)) p
+      → map h (counting a n) ≡ updated g (map f (counting a n)) p
   updated-from f h g a zero p q e other here = refl
   updated-from f h g a (suc n) zero q e other here =
-    let same : a ≡ q = omega arith in
-    λ i. (ap h same ∙ here ∙ ap (λ k. g (f k)) (sym same)) i ∷ map-same f h (a + 1) n (λ k l. other k (λ z. omega arith)) i
+      let same : a ≡ q = omega arith in
+      λ i. (ap h same ∙ here ∙ ap (λ k. g (f k)) (sym same)) i ∷ map-same f h (a + 1) n (λ k l. other k (λ z. omega arith)) i
   updated-from f h g a (suc n) (suc p) q e other here =
-    λ i. other a (λ z. omega arith) i ∷ updated-from f h g (a + 1) n p q (omega arith) other here i
+      λ i. other a (λ z. omega arith) i ∷ updated-from f h g (a + 1) n p q (omega arith) other here i
 
   -- one board changed, the others as they were
   pub updated-board : (f h : ℕ → A) (g : A → A) (n p : ℕ) → ((k : ℕ) → (k ≡ p → ⊥) → h k ≡ f k) → h p ≡ g (f p)
-    → map h (counting 0 n) ≡ updated g (map f (counting 0 n)) p
+      → map h (counting 0 n) ≡ updated g (map f (counting 0 n)) p
   updated-board f h g n p other here = updated-from f h g 0 n p p (omega arith) other here
 
   -- a sum over all boards, after a change of one
   pub sum-updated : (w : A → ℕ) (g : A → A) (xs : List A) (p : ℕ) (x : A) → nth xs p ≡ Some x
-    → sumBy w (updated g xs p) + w x ≡ sumBy w xs + w (g x)
+      → sumBy w (updated g xs p) + w x ≡ sumBy w xs + w (g x)
   sum-updated w g [] p x e = absurd (let z : _≡_ {A = ℕ} 0 1 = cc in omega arith)
   sum-updated w g (y ∷ ys) zero x e =
-    let same : y ≡ x = cc in
-    let wy = ap w same in
-    let wg = ap (λ z. w (g z)) same in
-    let was = sumBy-cons w y ys in
-    let is = sumBy-cons w (g y) ys in
-    omega (arith, wy, wg, was, is)
+      let same : y ≡ x = cc in
+      let wy = ap w same in
+      let wg = ap (λ z. w (g z)) same in
+      let was = sumBy-cons w y ys in
+      let is = sumBy-cons w (g y) ys in
+      omega (arith, wy, wg, was, is)
   sum-updated w g (y ∷ ys) (suc p) x e =
-    let more = sum-updated w g ys p x e in
-    let was = sumBy-cons w y ys in
-    let is = sumBy-cons w y (updated g ys p) in
-    omega (arith, more, was, is)
+      let more = sum-updated w g ys p x e in
+      let was = sumBy-cons w y ys in
+      let is = sumBy-cons w y (updated g ys p) in
+      omega (arith, more, was, is)
 
   -- one board's share of a sum
   pub sum-has : (w : A → ℕ) (xs : List A) (p : ℕ) (x : A) → nth xs p ≡ Some x → w x ≤ sumBy w xs
   sum-has w [] p x e = absurd (let z : _≡_ {A = ℕ} 0 1 = cc in omega arith)
   sum-has w (y ∷ ys) zero x e =
-    let same : y ≡ x = cc in
-    let wy = ap w same in
-    omega (arith, wy, sumBy-cons w y ys)
+      let same : y ≡ x = cc in
+      let wy = ap w same in
+      omega (arith, wy, sumBy-cons w y ys)
   sum-has w (y ∷ ys) (suc p) x e = let more = sum-has w ys p x e in omega (arith, more, sumBy-cons w y ys)

@@ -1,32 +1,32 @@
 -- The entries of a new journal. Assumes nothing.
 use mathlib.Core.Path.{_≡_, refl, sym, ap, _∙_}
-use mathlib.Core.Bool.{Bool, true, false, cond}
+use mathlib.Core.Bool.{Bool, true, false, cond, _||_}
 use mathlib.Core.List.{List, [], _∷_, _++_, append-assoc, map}
 use Prim.Native.Nat.{ℕ, zero, suc, _+_, _-_, _/_, _<_, _≤_}
 use native.Mathlib.Omega.{arith}
-use lib.Dec.{eqb}
+use lib.Dec.{eqb, ltb}
 use lib.ListN.{length, set, take, drop, getD, replicate}
 use Rattle.std.specs.Iters.{folded, counting}
-use Rattle.std.specs.declared.option.Option.the-variants.{None}
+use Rattle.std.specs.declared.option.Option.the-variants.{Some, None}
 use Rattle.std.specs.shelf.Lists.{sumBy}
 use Rattle.std.proofs.shelf.Counted.{length-map-counting, map-counting-more}
 use Rattle.std.proofs.shelf.Lists.{set-at, take-at, drop-more, length-append, length-drop}
 use Rattle.std.proofs.shelf.Sums.{sumBy-cons}
-use Rattle.std.proofs.shelf.Tests.{cond-true, le-leb}
-use Rattle.store.specs.Meaning.{Kept}
-use Rattle.store.specs.Slots.{freshMeaning}
+use Rattle.std.proofs.shelf.Tests.{cond-true, le-leb, ltb-false}
+use Rattle.store.specs.Meaning.{Kept, freshMeaning}
+use Rattle.store.specs.declared.refusal.MakeRefusal.the-variants.{BadCount, BadRoom}
 use Rattle.journal.specs.Logs.{told, keptOf, pendingOne}
-use Rattle.journal.specs.Journals.{pendings, roomy, keptAt, journalMeaning, firstEntry, freshEntries}
+use Rattle.journal.specs.Journals.{pendings, roomy, keptAt, journalMeaning, firstEntry, freshEntries, journalRefused}
 use Rattle.journal.specs.declared.entry.Entry.{Entry}
 
 -- one board more
 pub fresh-more : {R : Type 0} (first : R) (xs : List (Entry R)) (n : ℕ) → n < length xs
-  → set (freshEntries first n ++ drop n xs) n (firstEntry first n) ≡ freshEntries first (n + 1) ++ drop (n + 1) xs
+    → set (freshEntries first n ++ drop n xs) n (firstEntry first n) ≡ freshEntries first (n + 1) ++ drop (n + 1) xs
 fresh-more first xs n h =
-  let f = firstEntry first in
-  let front = freshEntries first n in
-  let rest = drop (n + 1) xs in
-  ap (λ ys. set (front ++ ys) n (f n)) (drop-more xs n (f n) h)
+    let f = firstEntry first in
+    let front = freshEntries first n in
+    let rest = drop (n + 1) xs in
+    ap (λ ys. set (front ++ ys) n (f n)) (drop-more xs n (f n) h)
     ∙ set-at front (getD xs n (f n)) rest (f n) n (length-map-counting f 0 n)
     ∙ sym (append-assoc front (f n ∷ []) rest)
     ∙ ap (λ ys. ys ++ rest) (sym (map-counting-more f 0 n n (omega arith)))
@@ -44,7 +44,7 @@ told-first first p q = go (eqb q p) where
 kept-from : {R : Type 0} (first : R) (a n p : ℕ) → folded (told p) (nothing first) (map (firstEntry first) (counting a n)) ≡ nothing first
 kept-from first a zero p = refl
 kept-from first a (suc n) p =
-  ap (λ k. folded (told p) k (map (firstEntry first) (counting (a + 1) n))) (told-first first p a) ∙ kept-from first (a + 1) n p
+    ap (λ k. folded (told p) k (map (firstEntry first) (counting (a + 1) n))) (told-first first p a) ∙ kept-from first (a + 1) n p
 
 module _ {R : Type 0} (first : R) (xs : List (Entry R)) (n : ℕ) where
   log-is : take n (freshEntries first n ++ drop n xs) ≡ freshEntries first n
@@ -56,9 +56,9 @@ module _ {R : Type 0} (first : R) (xs : List (Entry R)) (n : ℕ) where
   none-from : (f : ℕ → Kept R) → ((p : ℕ) → f p ≡ nothing first) → (a m : ℕ) → sumBy pendingOne (map f (counting a m)) ≡ 0
   none-from f e a zero = refl
   none-from f e a (suc m) =
-    let one : pendingOne (f a) ≡ 0 = ap pendingOne (e a) in
-    let more = none-from f e (a + 1) m in
-    omega (arith, one, more, sumBy-cons pendingOne (f a) (map f (counting (a + 1) m)))
+      let one : pendingOne (f a) ≡ 0 = ap pendingOne (e a) in
+      let more = none-from f e (a + 1) m in
+      omega (arith, one, more, sumBy-cons pendingOne (f a) (map f (counting (a + 1) m)))
 
   all-from : (f : ℕ → Kept R) → ((p : ℕ) → f p ≡ nothing first) → (a m : ℕ) → map f (counting a m) ≡ replicate m (nothing first)
   all-from f e a zero = refl
@@ -67,12 +67,22 @@ module _ {R : Type 0} (first : R) (xs : List (Entry R)) (n : ℕ) where
   -- a new journal means the first record standing everywhere, none pending, and a spare of half the places left
   pub fresh-means : n ≤ length xs → journalMeaning first (freshEntries first n ++ drop n xs) n n ≡ freshMeaning first ((length xs - n) / 2) n
   fresh-means h =
-    let entries = freshEntries first n ++ drop n xs in
-    let none : pendings first entries n n ≡ 0 = none-from (keptOf first (take n entries)) kept-is 0 n in
-    let long : length entries ≡ length xs =
+      let entries = freshEntries first n ++ drop n xs in
+      let none : pendings first entries n n ≡ 0 = none-from (keptOf first (take n entries)) kept-is 0 n in
+      let long : length entries ≡ length xs =
       length-append (freshEntries first n) (drop n xs) ∙ (λ i. length-map-counting (firstEntry first) 0 n i + length-drop n xs i) ∙ omega arith in
-    let room : roomy first entries n n ≡ true = le-leb _ _ (omega (arith, none, long)) in
-    let half : (length entries - n - pendings first entries n n) / 2 ≡ (length xs - n) / 2 = ap (λ j. j / 2) (omega (arith, none, long)) in
-    λ i. record {
-      boards = all-from (keptAt first entries n n) (λ p. cond-true _ _ _ room ∙ kept-is p) 0 n i;
-      spare = half i }
+      let room : roomy first entries n n ≡ true = le-leb _ _ (omega (arith, none, long)) in
+      let half : (length entries - n - pendings first entries n n) / 2 ≡ (length xs - n) / 2 = ap (λ j. j / 2) (omega (arith, none, long)) in
+      λ i. record {
+        boards = all-from (keptAt first entries n n) (λ p. cond-true _ _ _ room ∙ kept-is p) 0 n i;
+        spare = half i;
+      }
+
+-- a journal that is made has a place for each board
+room-refused : (a b c : Bool) → None ≡ cond a (Some BadCount) (cond (b || c) (Some BadRoom) None) → b ≡ false
+room-refused true b c e = absurd (let z : _≡_ {A = ℕ} 0 1 = cc in omega arith)
+room-refused false true c e = absurd (let z : _≡_ {A = ℕ} 0 1 = cc in omega arith)
+room-refused false false c e = refl
+
+pub made-fits : (places n : ℕ) → None ≡ journalRefused places n → n ≤ places
+made-fits places n e = ltb-false places n (room-refused (eqb n 0 || ltb 64 n) (ltb places n) (ltb 1024 places) e)

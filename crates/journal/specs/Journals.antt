@@ -1,4 +1,5 @@
 -- What a journal means. It has C places, of which U are used; K of its boards have a record pending.
+use mathlib.Core.Path.{_≡_}
 use mathlib.Core.Bool.{Bool, true, false, cond, _||_}
 use mathlib.Core.List.{List, [], _∷_, _++_, map}
 use Prim.Native.Nat.{ℕ, _+_, _-_, _/_}
@@ -36,7 +37,8 @@ keptAt first entries used n p = counted (roomy first entries used n) (keptOf fir
 abbrev pub journalMeaning : {R : Type 0} → R → List (Entry R) → ℕ → ℕ → Meaning R
 journalMeaning first entries used n = record {
   boards = map (keptAt first entries used n) (counting 0 n);
-  spare = (length entries - used - pendings first entries used n) / 2 }
+  spare = (length entries - used - pendings first entries used n) / 2;
+}
 
 -- the entry that a call appends: it points back to the board's latest entry
 abbrev pub entryOf : {R : Type 0} → ℕ → EntryKind → R → List (Entry R) → Entry R
@@ -67,3 +69,9 @@ journalRefused places n = cond (eqb n 0 || ltb 64 n) (Some BadCount) (cond (ltb 
 abbrev pub prepared : {R : Type 0} → R → List (Entry R) → ℕ → Option MakeRefusal → List (Entry R)
 prepared first entries n None = freshEntries first n ++ drop n entries
 prepared first entries n (Some why) = entries
+
+-- a new journal: the whole memory, with the boards' first entries used
+pub record New {R : Type 0} (first : R) (was : List (Entry R)) (n : ℕ) (entries : List (Entry R)) (used boards : ℕ) : Type 0 where
+  pub memory : entries ≡ freshEntries first n ++ drop n was
+  pub count : used ≡ n
+  pub all : boards ≡ n

@@ -20,7 +20,11 @@ use store::refusal::StoreRefusal;
 fn log_of<R: Part>(entries: &[Entry<R>], used: usize) -> &[Entry<R>]
     ensures { λ r. ⌜ now r ≡ take used (now (entries .entry)) ⌝ }
 {
-    if used < entries.len() { &entries[0..used] } else { entries }
+    if used < entries.len() {
+        &entries[0..used]
+    } else {
+        entries
+    }
 }
 
 pub fn spare_in<R: Part>(entries: &[Entry<R>], used: usize, boards: usize) -> usize
@@ -30,7 +34,12 @@ pub fn spare_in<R: Part>(entries: &[Entry<R>], used: usize, boards: usize) -> us
     entries.len().saturating_sub(used).saturating_sub(pending) / 2
 }
 
-pub fn standing_in<R: Part>(entries: &[Entry<R>], used: usize, boards: usize, board: usize) -> Result<R, StoreRefusal>
+pub fn standing_in<R: Part>(
+    entries: &[Entry<R>],
+    used: usize,
+    boards: usize,
+    board: usize,
+) -> Result<R, StoreRefusal>
     ensures { λ r. ⌜ r ≡ standingOf (journalMeaning (R·Part .rules .first) (now (entries .entry)) used boards) board ⌝ }
 {
     if board >= boards {
@@ -49,7 +58,12 @@ fn has_room<R: Part>(entries: &[Entry<R>], used: usize, boards: usize) -> bool
 }
 
 // Whether the board has a record pending.
-pub fn pending_in<R: Part>(entries: &[Entry<R>], used: usize, boards: usize, board: usize) -> Result<bool, StoreRefusal>
+pub fn pending_in<R: Part>(
+    entries: &[Entry<R>],
+    used: usize,
+    boards: usize,
+    board: usize,
+) -> Result<bool, StoreRefusal>
     ensures { λ r. ⌜ r ≡ pendingOf (journalMeaning (R·Part .rules .first) (now (entries .entry)) used boards) board ⌝ }
 {
     if board >= boards {
@@ -68,10 +82,21 @@ fn append<R: Part>(entries: &mut [Entry<R>], used: usize, board: usize, kind: En
     ensures { λ _. ⌜ now (entries .exit) ≡ set (now (entries .entry)) used (entryOf board kind state (take used (now (entries .entry)))) ⌝ }
 {
     let back = latest_of(log_of(entries, used), board);
-    entries[used] = Entry { board, kind, state, back };
+    entries[used] = Entry {
+        board,
+        kind,
+        state,
+        back,
+    };
 }
 
-pub fn put_in<R: Part>(entries: &mut [Entry<R>], used: usize, boards: usize, board: usize, state: R) -> Result<(), StoreRefusal>
+pub fn put_in<R: Part>(
+    entries: &mut [Entry<R>],
+    used: usize,
+    boards: usize,
+    board: usize,
+    state: R,
+) -> Result<(), StoreRefusal>
     ensures answer { λ r. ⌜ r ≡ putAnswer (journalMeaning (R·Part .rules .first) (now (entries .entry)) used boards) board ⌝ }
     ensures memory { λ r. ⌜ now (entries .exit) ≡ appended r (now (entries .entry)) used (entryOf board Put state (take used (now (entries .entry)))) ⌝ }
     ensures after { λ r. ⌜ journalMeaning (R·Part .rules .first) (now (entries .exit)) (usedAfter r used) boards ≡ putAfter 1 (journalMeaning (R·Part .rules .first) (now (entries .entry)) used boards) board state ⌝ }
@@ -92,7 +117,13 @@ pub fn put_in<R: Part>(entries: &mut [Entry<R>], used: usize, boards: usize, boa
 }
 
 // Ends a pending record by an entry of this kind, which holds the first record.
-pub fn end_in<R: Part>(entries: &mut [Entry<R>], used: usize, boards: usize, board: usize, kind: EntryKind) -> Result<(), StoreRefusal>
+pub fn end_in<R: Part>(
+    entries: &mut [Entry<R>],
+    used: usize,
+    boards: usize,
+    board: usize,
+    kind: EntryKind,
+) -> Result<(), StoreRefusal>
     ensures answer { λ r. ⌜ r ≡ keepAnswer (journalMeaning (R·Part .rules .first) (now (entries .entry)) used boards) board ⌝ }
     ensures memory { λ r. ⌜ now (entries .exit) ≡ appended r (now (entries .entry)) used (entryOf board kind (R·Part .rules .first) (take used (now (entries .entry)))) ⌝ }
     ensures pending { λ r. ⌜ made r (λ _. Ok true ≡ pendingOf (journalMeaning (R·Part .rules .first) (now (entries .entry)) used boards) board) ⌝ }

@@ -3,3 +3,4 @@ mod calls;
 pub mod entry;
 mod log;
 pub mod store;
+pub mod vectors;

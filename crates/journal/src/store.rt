@@ -1,16 +1,14 @@
 // The journal as a store.
-ghost use mathlib.Core.Bool.{true};
-ghost use mathlib.Core.List.{List, _++_};
+ghost use mathlib.Core.List.{_++_};
 ghost use mathlib.Core.Path.{_≡_};
-ghost use Prim.Native.Nat.{_+_, _≤_};
-ghost use denote.Ref.{now, name};
+ghost use Prim.Native.Nat.{_+_, _-_, _/_, _≤_};
+ghost use denote.Ref.{now};
 ghost use lib.Dec.{lit≤};
-ghost use lib.ListN.{length, take, drop};
-ghost use Rattle.journal.specs.Journals.{journalMeaning, entryOf, appended, usedAfter, freshEntries, journalRefused, prepared};
-ghost use Rattle.journal.specs.declared.entry.EntryKind.the-variants.{Put, Keep, Discard};
+ghost use lib.ListN.{length, drop};
+ghost use Rattle.journal.specs.Journals.{journalMeaning, freshEntries, journalRefused, prepared, New};
 ghost use Rattle.std.specs.Results.{errPart};
 ghost use Rattle.std.specs.Vec.{made};
-ghost use Rattle.store.specs.Meaning.{putAnswer, putAfter, keepAnswer, keepAfter, discardAfter};
+ghost use Rattle.store.specs.Meaning.{freshMeaning};
 use crate::calls::end_in;
 use crate::calls::pending_in;
 use crate::calls::put_in;
@@ -35,6 +33,7 @@ pub struct Journal<'a, R: Part> {
 
 // the most boards and places of a journal
 const MAX_BOARDS: usize = 64;
+
 const MAX_PLACES: usize = 1024;
 
 // Writes the first entry of each board.
@@ -71,7 +70,8 @@ impl<'a, R: Part> Journal<'a, R> {
     // A new journal in the whole of the memory: the first record stands everywhere, and none is pending.
     pub fn new(entries: &'a mut [Entry<R>], boards: usize) -> Result<Journal<'a, R>, MakeRefusal>
         ensures answer { λ r. ⌜ errPart r ≡ journalRefused (length (now (entries .entry))) boards ⌝ }
-        ensures places { λ r. ⌜ made r (λ s. (now (s .entries) ≡ freshEntries (R·Part .rules .first) boards ++ drop boards (now (entries .entry))) × (s .used ≡ boards) × (s .boards ≡ boards)) ⌝ }
+        ensures places { λ r. ⌜ made r (λ s. New (R·Part .rules .first) (now (entries .entry)) boards (now (s .entries)) (s .used) (s .boards)) ⌝ }
+        ensures fresh { λ r. ⌜ made r (λ s. journalMeaning (R·Part .rules .first) (now (s .entries)) (s .used) (s .boards) ≡ freshMeaning (R·Part .rules .first) ((length (now (entries .entry)) - boards) / 2) boards) ⌝ }
     {
         prepare(entries, boards)?;
         Ok(Journal {

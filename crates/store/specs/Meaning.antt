@@ -4,6 +4,7 @@ use mathlib.Core.Bool.{Bool, true, false, cond}
 use mathlib.Core.List.{List, [], _∷_}
 use Prim.Native.Nat.{ℕ, zero, suc, _-_}
 use lib.Dec.{eqb}
+use lib.ListN.{replicate}
 use Rattle.std.specs.Options.{isSome}
 use Rattle.std.specs.Results.{isOk}
 use Rattle.std.specs.Finite.{nth}
@@ -107,3 +108,7 @@ discarding k = record { standing = k .standing; pending = None }
 
 abbrev pub discardAfter : {R : Type 0} → Meaning R → ℕ → Meaning R
 discardAfter m p = cond (isOk (keepAnswer m p)) (record { boards = updated discarding (m .boards) p; spare = m .spare }) m
+
+-- a new store: the first record standing everywhere, and none pending
+abbrev pub freshMeaning : {R : Type 0} → R → ℕ → ℕ → Meaning R
+freshMeaning first spare n = record { boards = replicate n (record { standing = first; pending = None }); spare = spare }

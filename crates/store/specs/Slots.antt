@@ -1,7 +1,7 @@
 -- The slot store: two places a board, and what they mean.
 use mathlib.Core.Bool.{Bool, true, false, cond, _||_}
 use lib.Dec.{eqb, ltb}
-use lib.ListN.{replicate, set, drop}
+use lib.ListN.{set, drop}
 use mathlib.Core.List.{List, [], _∷_, _++_}
 use Prim.Native.Nat.{ℕ, zero, suc, _+_, _*_}
 use Rattle.std.specs.Finite.{nth}
@@ -28,10 +28,6 @@ pairs (a ∷ b ∷ rest) = pair a b ∷ pairs rest
 
 abbrev pub slotMeaning : {R : Type 0} → List (Slot R) → Meaning R
 slotMeaning xs = record { boards = pairs xs; spare = 1 }
-
--- the first record standing everywhere, and none pending
-abbrev pub freshMeaning : {R : Type 0} → R → ℕ → ℕ → Meaning R
-freshMeaning first spare n = record { boards = replicate n (record { standing = first; pending = None }); spare = spare }
 
 -- the places of a new store: for each board a standing record, and an empty place, which holds the first record too
 abbrev pub freshSlots : {R : Type 0} → R → ℕ → List (Slot R)

@@ -6,10 +6,10 @@ use Rattle.journal.proofs.calls.standing_in.Needs as need
 
 pub returns-then-board-boards : need.returns-then-board-boards
 returns-then-board-boards g c =
-  standing-none (g .R·Part .rules .first) (c .args .entries .now) (c .args .used) (c .args .boards) (c .args .board) (c .if-board-boards .taken)
+    standing-none (g .R·Part .rules .first) (c .args .entries .now) (c .args .used) (c .args .boards) (c .args .board) (c .if-board-boards .taken)
 
 pub returns : need.returns
 returns g c =
-  let first = g .R·Part .rules .first in
-  standing-some first (c .args .entries .now) (c .args .used) (c .args .boards) (c .args .board) (c .kept-in-found .result) (c .if-board-boards .left)
+    let first = g .R·Part .rules .first in
+    standing-some first (c .args .entries .now) (c .args .used) (c .args .boards) (c .args .board) (c .kept-in-found .result) (c .if-board-boards .left)
     (c .kept-in-found .ensures ∙ ap (λ log. keptOf first log (c .args .board)) (c .log-of .ensures))

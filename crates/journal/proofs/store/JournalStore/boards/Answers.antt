@@ -5,5 +5,5 @@ use Rattle.journal.proofs.store.JournalStore.boards.Needs as need
 
 pub returns : need.returns
 returns g c =
-  let s = c .args .self .now in
-  sym (length-map-counting (keptAt (g .R·Part .rules .first) (s .entries .now) (s .used) (s .boards)) 0 (s .boards))
+    let s = c .args .self .now in
+    sym (length-map-counting (keptAt (g .R·Part .rules .first) (s .entries .now) (s .used) (s .boards)) 0 (s .boards))

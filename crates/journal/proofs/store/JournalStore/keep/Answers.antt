@@ -8,13 +8,14 @@ use Rattle.journal.proofs.store.JournalStore.keep.Needs as need
 
 pub returns-in-Ok : need.returns-in-Ok
 returns-in-Ok g c =
-  let first = g .R·Part .rules .first in
-  let s = c .args .self .now in
-  let entries = s .entries .now in
-  let log = take (s .used) entries in
-  let p = c .args .board in
-  let e = c .in-Ok .ensures tt in
-  record {
-    answer = e .answer;
-    after = ap (λ es. journalMeaning first es (s .used + 1) (s .boards)) (e .memory)
-      ∙ keep-means first entries (s .used) (s .boards) p first (latestFrom p (length log) 0 log) (e .pending) }
+    let first = g .R·Part .rules .first in
+    let s = c .args .self .now in
+    let entries = s .entries .now in
+    let log = take (s .used) entries in
+    let p = c .args .board in
+    let e = c .in-Ok .ensures tt in
+    record {
+      answer = e .answer;
+      after = ap (λ es. journalMeaning first es (s .used + 1) (s .boards)) (e .memory)
+          ∙ keep-means first entries (s .used) (s .boards) p first (latestFrom p (length log) 0 log) (e .pending);
+    }
