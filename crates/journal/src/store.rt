@@ -2,13 +2,14 @@
 ghost use mathlib.Core.List.{_++_};
 ghost use mathlib.Core.Path.{_≡_};
 ghost use Prim.Native.Nat.{_+_, _-_, _/_, _≤_};
-ghost use denote.Ref.{now};
+ghost use denote.Ref.{now, name};
 ghost use lib.Dec.{lit≤};
-ghost use lib.ListN.{length, drop};
-ghost use Rattle.journal.specs.Journals.{journalMeaning, freshEntries, journalRefused, prepared, New};
+ghost use lib.ListN.{length, take, drop};
+ghost use Rattle.journal.specs.Journals.{journalMeaning, entryOf, appended, usedAfter, freshEntries, journalRefused, prepared, New};
+ghost use Rattle.journal.specs.declared.entry.EntryKind.the-variants.{Put, Keep, Discard};
 ghost use Rattle.std.specs.Results.{errPart};
 ghost use Rattle.std.specs.Vec.{made};
-ghost use Rattle.store.specs.Meaning.{freshMeaning};
+ghost use Rattle.store.specs.Meaning.{freshMeaning, putAnswer, putAfter, keepAnswer, keepAfter, discardAfter};
 use crate::calls::end_in;
 use crate::calls::pending_in;
 use crate::calls::put_in;
@@ -113,7 +114,13 @@ pub impl<'a, R: Part> Store for Journal<'a, R> as JournalStore {
         pending_in(self.entries, self.used, self.boards, board)
     }
 
-    fn put(&mut self, board: usize, state: R) -> Result<(), StoreRefusal> {
+    fn put(&mut self, board: usize, state: R) -> Result<(), StoreRefusal>
+        ensures answer { λ r. ⌜ r ≡ putAnswer (journalMeaning (R·Part .rules .first) (now (now (self .entry) .entries)) (now (self .entry) .used) (now (self .entry) .boards)) board ⌝ }
+        ensures after { λ _. ⌜ journalMeaning (R·Part .rules .first) (now (now (self .exit) .entries)) (now (self .exit) .used) (now (self .exit) .boards) ≡ putAfter 1 (journalMeaning (R·Part .rules .first) (now (now (self .entry) .entries)) (now (self .entry) .used) (now (self .entry) .boards)) board state ⌝ }
+        ensures memory { λ r. ⌜ now (now (self .exit) .entries) ≡ appended r (now (now (self .entry) .entries)) (now (self .entry) .used) (entryOf board Put state (take (now (self .entry) .used) (now (now (self .entry) .entries)))) ⌝ }
+        ensures numbers { λ r. ⌜ (now (self .exit) .used ≡ usedAfter r (now (self .entry) .used)) × (now (self .exit) .boards ≡ now (self .entry) .boards) ⌝ }
+        ensures stays { λ _. ⌜ name (now (self .exit) .entries) ≡ name (now (self .entry) .entries) ⌝ }
+    {
         let used = self.used;
         let boards = self.boards;
         match put_in(self.entries, used, boards, board, state) {
@@ -125,7 +132,13 @@ pub impl<'a, R: Part> Store for Journal<'a, R> as JournalStore {
         }
     }
 
-    fn keep(&mut self, board: usize) -> Result<(), StoreRefusal> {
+    fn keep(&mut self, board: usize) -> Result<(), StoreRefusal>
+        ensures answer { λ r. ⌜ r ≡ keepAnswer (journalMeaning (R·Part .rules .first) (now (now (self .entry) .entries)) (now (self .entry) .used) (now (self .entry) .boards)) board ⌝ }
+        ensures after { λ _. ⌜ journalMeaning (R·Part .rules .first) (now (now (self .exit) .entries)) (now (self .exit) .used) (now (self .exit) .boards) ≡ keepAfter (journalMeaning (R·Part .rules .first) (now (now (self .entry) .entries)) (now (self .entry) .used) (now (self .entry) .boards)) board ⌝ }
+        ensures memory { λ r. ⌜ now (now (self .exit) .entries) ≡ appended r (now (now (self .entry) .entries)) (now (self .entry) .used) (entryOf board Keep (R·Part .rules .first) (take (now (self .entry) .used) (now (now (self .entry) .entries)))) ⌝ }
+        ensures numbers { λ r. ⌜ (now (self .exit) .used ≡ usedAfter r (now (self .entry) .used)) × (now (self .exit) .boards ≡ now (self .entry) .boards) ⌝ }
+        ensures stays { λ _. ⌜ name (now (self .exit) .entries) ≡ name (now (self .entry) .entries) ⌝ }
+    {
         let used = self.used;
         let boards = self.boards;
         match end_in(self.entries, used, boards, board, EntryKind::Keep) {
@@ -137,7 +150,13 @@ pub impl<'a, R: Part> Store for Journal<'a, R> as JournalStore {
         }
     }
 
-    fn discard(&mut self, board: usize) -> Result<(), StoreRefusal> {
+    fn discard(&mut self, board: usize) -> Result<(), StoreRefusal>
+        ensures answer { λ r. ⌜ r ≡ keepAnswer (journalMeaning (R·Part .rules .first) (now (now (self .entry) .entries)) (now (self .entry) .used) (now (self .entry) .boards)) board ⌝ }
+        ensures after { λ _. ⌜ journalMeaning (R·Part .rules .first) (now (now (self .exit) .entries)) (now (self .exit) .used) (now (self .exit) .boards) ≡ discardAfter (journalMeaning (R·Part .rules .first) (now (now (self .entry) .entries)) (now (self .entry) .used) (now (self .entry) .boards)) board ⌝ }
+        ensures memory { λ r. ⌜ now (now (self .exit) .entries) ≡ appended r (now (now (self .entry) .entries)) (now (self .entry) .used) (entryOf board Discard (R·Part .rules .first) (take (now (self .entry) .used) (now (now (self .entry) .entries)))) ⌝ }
+        ensures numbers { λ r. ⌜ (now (self .exit) .used ≡ usedAfter r (now (self .entry) .used)) × (now (self .exit) .boards ≡ now (self .entry) .boards) ⌝ }
+        ensures stays { λ _. ⌜ name (now (self .exit) .entries) ≡ name (now (self .entry) .entries) ⌝ }
+    {
         let used = self.used;
         let boards = self.boards;
         match end_in(self.entries, used, boards, board, EntryKind::Discard) {

@@ -1,4 +1,4 @@
-use mathlib.Core.Path.{ap, _∙_}
+use mathlib.Core.Path.{refl, ap, _∙_}
 use Prim.Native.Nat.{_+_}
 use lib.ListN.{length, take}
 use Rattle.journal.specs.Logs.{latestFrom}
@@ -18,4 +18,7 @@ returns-in-Ok g c =
       answer = e .answer;
       after = ap (λ es. journalMeaning first es (s .used + 1) (s .boards)) (e .memory)
           ∙ discard-means first entries (s .used) (s .boards) p first (latestFrom p (length log) 0 log) (e .pending);
+      memory = e .memory;
+      numbers = (refl, refl);
+      stays = refl;
     }
