@@ -1,11 +1,17 @@
 // Runs stores by commands on standard input, one to a line, and writes what each answers.
-// `slots places boards` makes a store and gives it to the commands that follow: `put p n` puts the
+// `slots places boards` and `journal places boards` make a store and give it to the commands that follow: `put p n` puts the
 // record of pick n for board p, `keep p`, `drop p`, `standing p`, `pending p` and `spare` do and ask
 // what their names say. A refusal is written as its number.
+use journal::entry::Entry;
+use journal::entry::EntryClone;
+use journal::entry::EntryKind;
+use journal::store::Journal;
+use journal::store::JournalStore;
 use records::harness::Harness;
 use records::harness::HarnessPart;
 use records::part::Part;
 use std::error::AnyError;
+use store::refusal::MakeRefusal;
 use store::refusal::StoreRefusal;
 use store::slots::Slot;
 use store::slots::SlotClone;
@@ -74,6 +80,10 @@ fn command<S: Store<Record = Harness>>(
     }
 }
 
+fn makes(line: &str) -> bool {
+    line.starts_with("slots ") || line.starts_with("journal ")
+}
+
 // The commands after a store was made, up to the next one that makes a store.
 fn commands<S: Store<Record = Harness>>(
     rt: &LibcRuntime,
@@ -81,7 +91,7 @@ fn commands<S: Store<Record = Harness>>(
     lines: &[String],
 ) -> Result<(), AnyError> {
     for line in lines {
-        if line.as_str().starts_with("slots ") {
+        if makes(line.as_str()) {
             return Ok(());
         }
         let (word, n) = command(store, line.as_str())?;
@@ -90,24 +100,48 @@ fn commands<S: Store<Record = Harness>>(
     Ok(())
 }
 
-fn make(rt: &LibcRuntime, line: &str, rest: &[String]) -> Result<(), AnyError> {
+fn refused(rt: &LibcRuntime, line: &str, refusal: MakeRefusal) -> Result<(), AnyError> {
+    let n = refusal.number();
+    println!(rt, "{line}: refused {n}")?;
+    Ok(())
+}
+
+fn made<S: Store<Record = Harness>>(
+    rt: &LibcRuntime,
+    store: &mut S,
+    line: &str,
+    rest: &[String],
+) -> Result<(), AnyError> {
+    let count = store.boards();
+    println!(rt, "{line}: made {count}")?;
+    commands(rt, store, rest)
+}
+
+fn slots(rt: &LibcRuntime, line: &str, rest: &[String]) -> Result<(), AnyError> {
     let (_, places, boards) = words(line)?;
-    let empty = Slot {
+    let any = Slot {
         taken: true,
         state: picked(77),
     };
-    let mut memory = vec![in rt.alloc(); empty; places]?;
+    let mut memory = vec![in rt.alloc(); any; places]?;
     match SlotStore::new(&mut memory, boards as usize) {
-        Ok(mut store) => {
-            let count = store.boards();
-            println!(rt, "{line}: made {count}")?;
-            commands(rt, &mut store, rest)
-        }
-        Err(refusal) => {
-            let n = refusal.number();
-            println!(rt, "{line}: refused {n}")?;
-            Ok(())
-        }
+        Ok(mut store) => made(rt, &mut store, line, rest),
+        Err(refusal) => refused(rt, line, refusal),
+    }
+}
+
+fn journal(rt: &LibcRuntime, line: &str, rest: &[String]) -> Result<(), AnyError> {
+    let (_, places, boards) = words(line)?;
+    let any = Entry {
+        board: 0,
+        kind: EntryKind::Put,
+        state: picked(77),
+        back: 0,
+    };
+    let mut memory = vec![in rt.alloc(); any; places]?;
+    match Journal::new(&mut memory, boards as usize) {
+        Ok(mut store) => made(rt, &mut store, line, rest),
+        Err(refusal) => refused(rt, line, refusal),
     }
 }
 
@@ -117,8 +151,11 @@ fn run(rt: &LibcRuntime) -> Result<(), AnyError> {
         lines.push(line?)?;
     }
     for i in 0..lines.len() {
-        if lines[i].as_str().starts_with("slots ") {
-            make(rt, lines[i].as_str(), &lines[i + 1..])?;
+        let line = lines[i].as_str();
+        if line.starts_with("slots ") {
+            slots(rt, line, &lines[i + 1..])?;
+        } else if line.starts_with("journal ") {
+            journal(rt, line, &lines[i + 1..])?;
         }
     }
     Ok(())
