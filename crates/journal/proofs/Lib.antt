@@ -4,3 +4,4 @@ pub mod Appended
 pub mod Answered
 pub mod Means
 pub mod Fresh
+pub mod Pointers

@@ -1,3 +1,4 @@
 pub mod Logs
 pub mod Journals
 pub mod Vectors
+pub mod Pointers
