@@ -47,7 +47,7 @@ kept-from first a (suc n) p =
     ap (λ k. folded (told p) k (map (firstEntry first) (counting (a + 1) n))) (told-first first p a) ∙ kept-from first (a + 1) n p
 
 module _ {R : Type 0} (first : R) (xs : List (Entry R)) (n : ℕ) where
-  log-is : take n (freshEntries first n ++ drop n xs) ≡ freshEntries first n
+  pub log-is : take n (freshEntries first n ++ drop n xs) ≡ freshEntries first n
   log-is = take-at (freshEntries first n) (drop n xs) n (length-map-counting (firstEntry first) 0 n)
 
   kept-is : (p : ℕ) → keptOf first (take n (freshEntries first n ++ drop n xs)) p ≡ nothing first

@@ -6,13 +6,20 @@ use mathlib.Core.Logic.{_⊎_, inl, inr, ⊎-elim}
 use Prim.Native.Nat.{ℕ, zero, suc, _+_, _<_, _≤_}
 use native.Mathlib.Omega.{arith}
 use lib.Dec.{eqb}
-use lib.ListN.{length}
+use lib.ListN.{length, take, set}
 use Rattle.std.specs.Finite.{nth}
 use Rattle.std.specs.declared.option.Option.{Option}
 use Rattle.std.specs.declared.option.Option.the-variants.{Some, None}
-use Rattle.std.proofs.shelf.Tests.{eqb-true, eq-eqb, cond-true}
+use Rattle.std.proofs.shelf.Tests.{cases-lt, eqb-true, eq-eqb, cond-true}
+use Rattle.std.proofs.shelf.Lists.{take-more-set}
+use Rattle.std.specs.declared.result.Result.{Result}
+use Rattle.std.specs.declared.result.Result.the-variants.{Ok, Err}
+use Rattle.store.specs.Meaning.{putAt, putAnswer, keepAt, keepAnswer}
+use Rattle.journal.specs.Journals.{keptAt, journalMeaning, entryOf, firstEntry, freshEntries}
+use Rattle.journal.proofs.Answered.{err-not-ok}
+use Rattle.journal.proofs.Boards.{nth-board, no-board}
 use Rattle.journal.specs.Logs.{latestFrom}
-use Rattle.journal.specs.Pointers.{Stands, pointsBy, Threaded, EndsBy, Ends}
+use Rattle.journal.specs.Pointers.{Stands, pointsBy, Threaded, EndsBy, Ends, Traced}
 use Rattle.journal.specs.declared.entry.Entry.{Entry}
 use Rattle.journal.specs.declared.entry.EntryKind.{EntryKind}
 use Rattle.journal.specs.declared.entry.EntryKind.the-variants.{First, Put, Keep, Discard}
@@ -124,3 +131,46 @@ latest-back log n p t l =
     let same : f .0 ≡ latestFrom p (length log) 0 log = omega (arith, f .1) in
     let s = subst (λ (k : ℕ). Stands log p k) same (f .2) in
     (within log p _ s, s)
+
+pub traced : {R : Type 0} (log : List (Entry R)) (n : ℕ) → Threaded log n → Traced log n
+traced log n t = record { threads = t; ends = λ p i s. ends-first log p n i t s }
+
+-- a call's entry, of any kind but first
+module _ {R : Type 0} (first : R) (entries : List (Entry R)) (used n p : ℕ) (r : R) where
+  log : List (Entry R)
+  log = take used entries
+
+  pub traced-call : (kind : EntryKind) → ((i b : ℕ) → (b < i) × Stands (take used entries) p b → pointsBy kind (take used entries) p i b)
+      → used < length entries → p < n → Threaded (take used entries) n
+      → Traced (take (used + 1) (set entries used (entryOf p kind r (take used entries)))) n
+  traced-call kind earlier room l t =
+      let e = entryOf p kind r (take used entries) in
+      subst (λ (xs : List (Entry R)). Traced xs n) (sym (take-more-set entries used e room))
+      (traced (take used entries ++ e ∷ []) n
+      (threaded-more (take used entries) n e t (earlier (length (take used entries)) _ (latest-back (take used entries) n p t l))))
+
+-- a call that is taken names a board
+pub put-range : {R : Type 0} (first : R) (entries : List (Entry R)) (used n p : ℕ) → Ok tt ≡ putAnswer (journalMeaning first entries used n) p → p < n
+put-range first entries used n p h =
+    ⊎-elim (λ l. l) (λ l. absurd (err-not-ok (ap (putAt _) (sym (no-board (keptAt first entries used n) n p l)) ∙ sym h))) (cases-lt p n)
+
+pub keep-range : {R : Type 0} (first : R) (entries : List (Entry R)) (used n p : ℕ) → Ok tt ≡ keepAnswer (journalMeaning first entries used n) p → p < n
+keep-range first entries used n p h =
+    ⊎-elim (λ l. l) (λ l. absurd (err-not-ok (ap keepAt (sym (no-board (keptAt first entries used n) n p l)) ∙ sym h))) (cases-lt p n)
+
+-- the entries of a new journal
+some-same : {A : Type 0} (x y : A) → Some x ≡ Some y → x ≡ y
+some-same x y e = cc
+
+none-not-some : {A : Type 0} {x : A} → None ≡ Some x → ⊥
+none-not-some e = let z : _≡_ {A = ℕ} 0 1 = cc in omega arith
+
+pub threaded-fresh : {R : Type 0} (first : R) (n : ℕ) → Threaded (freshEntries first n) n
+threaded-fresh first n = record {
+  points = λ i e at. ⊎-elim
+      (λ l. subst (λ (x : Entry _). pointsBy (x .kind) (freshEntries first n) (x .board) i (x .back))
+      (some-same (firstEntry first i) e (sym (nth-board (firstEntry first) n i l) ∙ at)) refl)
+      (λ l. absurd (none-not-some (sym (no-board (firstEntry first) n i l) ∙ at)))
+      (cases-lt i n);
+  each = λ p l. (p, record { entry = firstEntry first p; here = nth-board (firstEntry first) n p l; board = refl });
+}

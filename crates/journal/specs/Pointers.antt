@@ -38,3 +38,8 @@ abbrev pub Ends : {R : Type 0} → ℕ → List (Entry R) → ℕ → ℕ → Ty
 Ends zero log p i = ⊥
 Ends {R = R} (suc steps) log p i =
     (e : Entry R) × (nth log i ≡ Some e) × (e .board ≡ p) × EndsBy (e .kind) (Ends steps log p (e .back))
+
+-- The pointers of a log are as they should be: from every entry, followed back, they end at its board's first entry.
+pub record Traced {R : Type 0} (log : List (Entry R)) (n : ℕ) : Type 0 where
+  pub threads : Threaded log n
+  pub ends : (p i : ℕ) → Stands log p i → Ends (suc i) log p i

@@ -6,6 +6,7 @@ ghost use denote.Ref.{now, name};
 ghost use lib.Dec.{lit≤};
 ghost use lib.ListN.{length, take, drop};
 ghost use Rattle.journal.specs.Journals.{journalMeaning, entryOf, appended, usedAfter, freshEntries, journalRefused, prepared, New};
+ghost use Rattle.journal.specs.Pointers.{Threaded, Traced};
 ghost use Rattle.journal.specs.declared.entry.EntryKind.the-variants.{Put, Keep, Discard};
 ghost use Rattle.std.specs.Results.{errPart};
 ghost use Rattle.std.specs.Vec.{made};
@@ -73,6 +74,7 @@ impl<'a, R: Part> Journal<'a, R> {
         ensures answer { λ r. ⌜ errPart r ≡ journalRefused (length (now (entries .entry))) boards ⌝ }
         ensures places { λ r. ⌜ made r (λ s. New (R·Part .rules .first) (now (entries .entry)) boards (now (s .entries)) (s .used) (s .boards)) ⌝ }
         ensures fresh { λ r. ⌜ made r (λ s. journalMeaning (R·Part .rules .first) (now (s .entries)) (s .used) (s .boards) ≡ freshMeaning (R·Part .rules .first) ((length (now (entries .entry)) - boards) / 2) boards) ⌝ }
+        ensures traced { λ r. ⌜ made r (λ s. Traced (take (s .used) (now (s .entries))) (s .boards)) ⌝ }
     {
         prepare(entries, boards)?;
         Ok(Journal {
@@ -120,6 +122,7 @@ pub impl<'a, R: Part> Store for Journal<'a, R> as JournalStore {
         ensures memory { λ r. ⌜ now (now (self .exit) .entries) ≡ appended r (now (now (self .entry) .entries)) (now (self .entry) .used) (entryOf board Put state (take (now (self .entry) .used) (now (now (self .entry) .entries)))) ⌝ }
         ensures numbers { λ r. ⌜ (now (self .exit) .used ≡ usedAfter r (now (self .entry) .used)) × (now (self .exit) .boards ≡ now (self .entry) .boards) ⌝ }
         ensures stays { λ _. ⌜ name (now (self .exit) .entries) ≡ name (now (self .entry) .entries) ⌝ }
+        ensures traced { λ _. ⌜ (Threaded (take (now (self .entry) .used) (now (now (self .entry) .entries))) (now (self .entry) .boards) → Traced (take (now (self .exit) .used) (now (now (self .exit) .entries))) (now (self .exit) .boards)) ⌝ }
     {
         let used = self.used;
         let boards = self.boards;
@@ -138,6 +141,7 @@ pub impl<'a, R: Part> Store for Journal<'a, R> as JournalStore {
         ensures memory { λ r. ⌜ now (now (self .exit) .entries) ≡ appended r (now (now (self .entry) .entries)) (now (self .entry) .used) (entryOf board Keep (R·Part .rules .first) (take (now (self .entry) .used) (now (now (self .entry) .entries)))) ⌝ }
         ensures numbers { λ r. ⌜ (now (self .exit) .used ≡ usedAfter r (now (self .entry) .used)) × (now (self .exit) .boards ≡ now (self .entry) .boards) ⌝ }
         ensures stays { λ _. ⌜ name (now (self .exit) .entries) ≡ name (now (self .entry) .entries) ⌝ }
+        ensures traced { λ _. ⌜ (Threaded (take (now (self .entry) .used) (now (now (self .entry) .entries))) (now (self .entry) .boards) → Traced (take (now (self .exit) .used) (now (now (self .exit) .entries))) (now (self .exit) .boards)) ⌝ }
     {
         let used = self.used;
         let boards = self.boards;
@@ -156,6 +160,7 @@ pub impl<'a, R: Part> Store for Journal<'a, R> as JournalStore {
         ensures memory { λ r. ⌜ now (now (self .exit) .entries) ≡ appended r (now (now (self .entry) .entries)) (now (self .entry) .used) (entryOf board Discard (R·Part .rules .first) (take (now (self .entry) .used) (now (now (self .entry) .entries)))) ⌝ }
         ensures numbers { λ r. ⌜ (now (self .exit) .used ≡ usedAfter r (now (self .entry) .used)) × (now (self .exit) .boards ≡ now (self .entry) .boards) ⌝ }
         ensures stays { λ _. ⌜ name (now (self .exit) .entries) ≡ name (now (self .entry) .entries) ⌝ }
+        ensures traced { λ _. ⌜ (Threaded (take (now (self .entry) .used) (now (now (self .entry) .entries))) (now (self .entry) .boards) → Traced (take (now (self .exit) .used) (now (now (self .exit) .entries))) (now (self .exit) .boards)) ⌝ }
     {
         let used = self.used;
         let boards = self.boards;

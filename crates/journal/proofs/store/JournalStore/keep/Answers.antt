@@ -1,9 +1,15 @@
-use mathlib.Core.Path.{refl, ap, _∙_}
+use mathlib.Core.Path.{refl, sym, ap, subst, _∙_}
+use mathlib.Core.List.{List}
 use Prim.Native.Nat.{_+_}
 use lib.ListN.{length, take}
+use Rattle.store.proofs.Slotted.{keep-refused}
 use Rattle.journal.specs.Logs.{latestFrom}
 use Rattle.journal.specs.Journals.{journalMeaning}
+use Rattle.journal.specs.Pointers.{Traced}
+use Rattle.journal.specs.declared.entry.Entry.{Entry}
+use Rattle.journal.specs.declared.entry.EntryKind.the-variants.{Keep}
 use Rattle.journal.proofs.Means.{keep-means}
+use Rattle.journal.proofs.Pointers.{traced, traced-call, keep-range}
 use Rattle.journal.proofs.store.JournalStore.keep.Needs as need
 
 pub returns-in-Ok : need.returns-in-Ok
@@ -21,4 +27,21 @@ returns-in-Ok g c =
       memory = e .memory;
       numbers = (refl, refl);
       stays = refl;
+      traced = λ t. subst (λ (xs : List (Entry _)). Traced (take (s .used + 1) xs) (s .boards)) (sym (e .memory))
+          (traced-call first entries (s .used) (s .boards) p first Keep (λ i b h. h) (e .room) (keep-range first entries (s .used) (s .boards) p (e .answer)) t);
+    }
+
+pub returns-in-Err : need.returns-in-Err
+returns-in-Err g c =
+    let first = g .R·Part .rules .first in
+    let s = c .args .self .now in
+    let e = c .in-Err .ensures tt in
+    record {
+      answer = e .answer;
+      after = ap (λ es. journalMeaning first es (s .used) (s .boards)) (e .memory)
+          ∙ keep-refused (journalMeaning first (s .entries .now) (s .used) (s .boards)) (c .args .board) _ (e .answer);
+      memory = e .memory;
+      numbers = (refl, refl);
+      stays = refl;
+      traced = λ t. subst (λ (xs : List (Entry _)). Traced (take (s .used) xs) (s .boards)) (sym (e .memory)) (traced _ (s .boards) t);
     }
