@@ -5,3 +5,4 @@ pub mod Answered
 pub mod Means
 pub mod Fresh
 pub mod Pointers
+pub mod Back

@@ -2,3 +2,4 @@ pub mod Logs
 pub mod Journals
 pub mod Vectors
 pub mod Pointers
+pub mod Back

@@ -1,8 +1,10 @@
 // The calls of a journal, over its memory: each put, keep and drop is an entry behind those before it.
-ghost use mathlib.Core.Bool.{true};
+ghost use mathlib.Core.Bool.{true, false};
+ghost use mathlib.Core.List.{reverse};
 ghost use mathlib.Core.Path.{_≡_};
 ghost use Prim.Native.Nat.{_<_};
 ghost use lib.ListN.{length, take, set};
+ghost use Rattle.journal.specs.Back.{latestKept};
 ghost use Rattle.journal.specs.Journals.{journalMeaning, roomy, entryOf, appended, usedAfter};
 ghost use Rattle.journal.specs.declared.entry.EntryKind.the-variants.{Put};
 ghost use Rattle.std.specs.Vec.{made};
@@ -40,7 +42,8 @@ pub fn standing_in<R: Part>(
     boards: usize,
     board: usize,
 ) -> Result<R, StoreRefusal>
-    ensures { λ r. ⌜ r ≡ standingOf (journalMeaning (R·Part .rules .first) (now (entries .entry)) used boards) board ⌝ }
+    ensures value { λ r. ⌜ r ≡ standingOf (journalMeaning (R·Part .rules .first) (now (entries .entry)) used boards) board ⌝ }
+    ensures latest { λ r. ⌜ made r (λ x. x ≡ latestKept (R·Part .rules .first) board false (reverse (take used (now (entries .entry))))) ⌝ }
 {
     if board >= boards {
         return Err(StoreRefusal::BadBoard);

@@ -1,16 +1,18 @@
 // The journal as a store.
-ghost use mathlib.Core.List.{_++_};
+ghost use mathlib.Core.Bool.{false};
+ghost use mathlib.Core.List.{_++_, reverse};
 ghost use mathlib.Core.Path.{_≡_};
 ghost use Prim.Native.Nat.{_+_, _-_, _/_, _≤_};
 ghost use denote.Ref.{now, name};
 ghost use lib.Dec.{lit≤};
 ghost use lib.ListN.{length, take, drop};
+ghost use Rattle.journal.specs.Back.{latestKept};
 ghost use Rattle.journal.specs.Journals.{journalMeaning, entryOf, appended, usedAfter, freshEntries, journalRefused, prepared, New};
 ghost use Rattle.journal.specs.Pointers.{Threaded, Traced};
 ghost use Rattle.journal.specs.declared.entry.EntryKind.the-variants.{Put, Keep, Discard};
 ghost use Rattle.std.specs.Results.{errPart};
 ghost use Rattle.std.specs.Vec.{made};
-ghost use Rattle.store.specs.Meaning.{freshMeaning, putAnswer, putAfter, keepAnswer, keepAfter, discardAfter};
+ghost use Rattle.store.specs.Meaning.{freshMeaning, standingOf, putAnswer, putAfter, keepAnswer, keepAfter, discardAfter};
 use crate::calls::end_in;
 use crate::calls::pending_in;
 use crate::calls::put_in;
@@ -108,7 +110,10 @@ pub impl<'a, R: Part> Store for Journal<'a, R> as JournalStore {
         spare_in(self.entries, self.used, self.boards)
     }
 
-    fn standing(&self, board: usize) -> Result<R, StoreRefusal> {
+    fn standing(&self, board: usize) -> Result<R, StoreRefusal>
+        ensures value { λ r. ⌜ r ≡ standingOf (journalMeaning (R·Part .rules .first) (now (now (self .entry) .entries)) (now (self .entry) .used) (now (self .entry) .boards)) board ⌝ }
+        ensures latest { λ r. ⌜ made r (λ x. x ≡ latestKept (R·Part .rules .first) board false (reverse (take (now (self .entry) .used) (now (now (self .entry) .entries))))) ⌝ }
+    {
         standing_in(self.entries, self.used, self.boards, board)
     }
 

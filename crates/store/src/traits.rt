@@ -33,7 +33,7 @@ pub trait Store {
         ensures { λ r. ⌜ r ≡ meaning (now (self .entry)) .spare ⌝ };
 
     fn standing(&self, board: usize) -> Result<Self::Record, StoreRefusal>
-        ensures { λ r. ⌜ r ≡ standingOf (meaning (now (self .entry))) board ⌝ };
+        ensures value { λ r. ⌜ r ≡ standingOf (meaning (now (self .entry))) board ⌝ };
 
     fn is_pending(&self, board: usize) -> Result<bool, StoreRefusal>
         ensures { λ r. ⌜ r ≡ pendingOf (meaning (now (self .entry))) board ⌝ };
