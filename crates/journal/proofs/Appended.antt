@@ -40,7 +40,9 @@ module _ {R : Type 0} (first : R) (entries : List (Entry R)) (used n : ℕ) (e :
 
   -- all boards, before any is counted out
   all-more : keptAll first (take (used + 1) (set entries used e)) n ≡ updated (byKind (e .kind) (e .state)) (keptAll first (take used entries) n) (e .board)
-  all-more = updated-board (keptOf first (take used entries)) (keptOf first (take (used + 1) (set entries used e))) (byKind (e .kind) (e .state)) n (e .board) kept-other kept-own
+  all-more =
+      updated-board (keptOf first (take used entries)) (keptOf first (take (used + 1) (set entries used e))) (byKind (e .kind) (e .state)) n (e .board)
+      kept-other kept-own
 
   -- how many are pending
   pub count-more : e .board < n
@@ -48,11 +50,13 @@ module _ {R : Type 0} (first : R) (entries : List (Entry R)) (used n : ℕ) (e :
       ≡ pendings first entries used n + pendingOne (byKind (e .kind) (e .state) (keptOf first (take used entries) (e .board)))
   count-more h =
       ap (λ ks. pendingCount ks + pendingOne (keptOf first (take used entries) (e .board))) all-more
-      ∙ sum-updated pendingOne (byKind (e .kind) (e .state)) (keptAll first (take used entries) n) (e .board) _ (nth-board (keptOf first (take used entries)) n (e .board) h)
+      ∙ sum-updated pendingOne (byKind (e .kind) (e .state)) (keptAll first (take used entries) n) (e .board) _
+      (nth-board (keptOf first (take used entries)) n (e .board) h)
 
   -- the boards, where all that is pending counts before and after
   pub boards-more : roomy first entries used n ≡ true → roomy first (set entries used e) (used + 1) n ≡ true
-      → map (keptAt first (set entries used e) (used + 1) n) (counting 0 n) ≡ updated (byKind (e .kind) (e .state)) (map (keptAt first entries used n) (counting 0 n)) (e .board)
+      → map (keptAt first (set entries used e) (used + 1) n) (counting 0 n)
+      ≡ updated (byKind (e .kind) (e .state)) (map (keptAt first entries used n) (counting 0 n)) (e .board)
   boards-more before then =
       updated-board (keptAt first entries used n) (keptAt first (set entries used e) (used + 1) n) (byKind (e .kind) (e .state)) n (e .board)
       (λ q ne. cond-true _ _ _ then ∙ kept-other q ne ∙ sym (cond-true _ _ _ before))

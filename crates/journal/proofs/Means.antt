@@ -15,7 +15,8 @@ use Rattle.std.specs.declared.option.Option.the-variants.{Some, None}
 use Rattle.std.specs.declared.result.Result.{Result}
 use Rattle.std.specs.declared.result.Result.the-variants.{Ok, Err}
 use Rattle.std.proofs.shelf.Tests.{cases-lt, cond-true, leb-true, le-leb}
-use Rattle.store.specs.Meaning.{Kept, Meaning, Answer, updated, putting, keeping, discarding, pendingAt, pendingOf, putAnswer, putAfter, keepAnswer, keepAfter, discardAfter}
+use Rattle.store.specs.Meaning.{Kept, Meaning, Answer, updated, putting, keeping, discarding}
+use Rattle.store.specs.Meaning.{pendingAt, pendingOf, putAnswer, putAfter, keepAnswer, keepAfter, discardAfter}
 use Rattle.store.specs.declared.refusal.StoreRefusal.{StoreRefusal}
 use Rattle.store.specs.declared.refusal.StoreRefusal.the-variants.{BadBoard}
 use Rattle.journal.specs.Logs.{byKind, keptOf, pendingOne}
@@ -39,7 +40,8 @@ module _ {R : Type 0} (first : R) (entries : List (Entry R)) (used n p : ℕ) wh
   pub in-range : (b : Bool) → Ok b ≡ pendingOf (journalMeaning first entries used n) p → p < n
   in-range b h = ⊎-elim (λ l. l) (λ l. absurd (err-not-ok (pending-none first entries used n p l ∙ sym h))) (cases-lt p n)
 
-  answer-is : (b : Bool) → Ok b ≡ pendingOf (journalMeaning first entries used n) p → isSome (counted (roomy first entries used n) (keptOf first (take used entries) p) .pending) ≡ b
+  answer-is : (b : Bool) → Ok b ≡ pendingOf (journalMeaning first entries used n) p
+      → isSome (counted (roomy first entries used n) (keptOf first (take used entries) p) .pending) ≡ b
   answer-is b h = sym (bool-same (h ∙ ap pendingAt (nth-board (keptAt first entries used n) n p (in-range b h))))
 
   -- what is pending counts, and has a place
@@ -108,7 +110,8 @@ module _ {R : Type 0} (first : R) (entries : List (Entry R)) (used n p : ℕ) (r
       let fits = leb-true _ _ (here .0) in
       let room = place-left first entries used n p h in
       let one = one-of (keptOf first (take used entries) p) true (here .1) in
-      let none : pendingOne (byKind kind r (keptOf first (take used entries) p)) ≡ 0 = ap (λ (o : Option R). cond (isSome o) 1 0) (over (keptOf first (take used entries) p)) in
+      let none : pendingOne (byKind kind r (keptOf first (take used entries) p)) ≡ 0 =
+      ap (λ (o : Option R). cond (isSome o) 1 0) (over (keptOf first (take used entries) p)) in
       let count = count-more first entries used n e room (in-range first entries used n p true h) in
       let same = length-set entries used e in
       let then : roomy first (set entries used e) (used + 1) n ≡ true = le-leb _ _ (omega (arith, fits, one, none, count, same)) in

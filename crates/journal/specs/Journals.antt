@@ -10,7 +10,7 @@ use Rattle.std.specs.declared.option.Option.{Option}
 use Rattle.std.specs.declared.option.Option.the-variants.{Some, None}
 use Rattle.std.specs.declared.result.Result.{Result}
 use Rattle.std.specs.declared.result.Result.the-variants.{Ok, Err}
-use Rattle.store.specs.Meaning.{Kept, Meaning, discarding}
+use Rattle.store.specs.Meaning.{Kept, Meaning, discarding, putAfter}
 use Rattle.store.specs.declared.refusal.MakeRefusal.{MakeRefusal}
 use Rattle.store.specs.declared.refusal.MakeRefusal.the-variants.{BadCount, BadRoom}
 use Rattle.journal.specs.Logs.{keptOf, keptAll, pendingCount, latestFrom}
@@ -54,12 +54,24 @@ abbrev pub usedAfter : {V E : Type 0} → Result V E → ℕ → ℕ
 usedAfter (Ok v) used = used + 1
 usedAfter (Err x) used = used
 
+-- the same where the entry ends a pending record, and so holds the first one
+abbrev pub ended : {V E R : Type 0} → Result V E → R → List (Entry R) → ℕ → ℕ → EntryKind → List (Entry R)
+ended r first entries used p kind = appended r entries used (entryOf p kind first (take used entries))
+
+-- the meaning after put
+abbrev pub PutDone : {R : Type 0} → R → List (Entry R) → ℕ → ℕ → ℕ → R → List (Entry R) → ℕ → Type 0
+PutDone first entries used n p r entries′ used′ = journalMeaning first entries′ used′ n ≡ putAfter 1 (journalMeaning first entries used n) p r
+
 -- the entries of a new journal: each board's first record, which points to itself
 abbrev pub firstEntry : {R : Type 0} → R → ℕ → Entry R
 firstEntry first p = record { board = p; kind = First; state = first; back = p }
 
 abbrev pub freshEntries : {R : Type 0} → R → ℕ → List (Entry R)
 freshEntries first n = map (firstEntry first) (counting 0 n)
+
+-- the spare of a new journal: half the places that are left
+abbrev pub freshSpare : ℕ → ℕ → ℕ
+freshSpare places n = (places - n) / 2
 
 -- why a journal is not made: of 0 or over 64 boards, then of fewer places than boards or over 1,024
 abbrev pub journalRefused : ℕ → ℕ → Option MakeRefusal

@@ -3,3 +3,4 @@ pub mod Journals
 pub mod Vectors
 pub mod Pointers
 pub mod Back
+pub mod Held

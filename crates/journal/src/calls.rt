@@ -5,11 +5,11 @@ ghost use mathlib.Core.Path.{_≡_};
 ghost use Prim.Native.Nat.{_<_};
 ghost use lib.ListN.{length, take, set};
 ghost use Rattle.journal.specs.Back.{latestKept};
-ghost use Rattle.journal.specs.Journals.{journalMeaning, roomy, entryOf, appended, usedAfter};
+ghost use Rattle.journal.specs.Journals.{journalMeaning, roomy, entryOf, appended, ended, usedAfter, PutDone};
 ghost use Rattle.journal.specs.declared.entry.EntryKind.the-variants.{Put};
 ghost use Rattle.std.specs.Vec.{made};
 ghost use Rattle.std.specs.declared.result.Result.the-variants.{Ok};
-ghost use Rattle.store.specs.Meaning.{standingOf, pendingOf, putAnswer, putAfter, keepAnswer};
+ghost use Rattle.store.specs.Meaning.{standingOf, pendingOf, putAnswer, keepAnswer};
 use crate::entry::Entry;
 use crate::entry::EntryKind;
 use crate::log::count_pending;
@@ -102,7 +102,7 @@ pub fn put_in<R: Part>(
 ) -> Result<(), StoreRefusal>
     ensures answer { λ r. ⌜ r ≡ putAnswer (journalMeaning (R·Part .rules .first) (now (entries .entry)) used boards) board ⌝ }
     ensures memory { λ r. ⌜ now (entries .exit) ≡ appended r (now (entries .entry)) used (entryOf board Put state (take used (now (entries .entry)))) ⌝ }
-    ensures after { λ r. ⌜ journalMeaning (R·Part .rules .first) (now (entries .exit)) (usedAfter r used) boards ≡ putAfter 1 (journalMeaning (R·Part .rules .first) (now (entries .entry)) used boards) board state ⌝ }
+    ensures after { λ r. ⌜ PutDone (R·Part .rules .first) (now (entries .entry)) used boards board state (now (entries .exit)) (usedAfter r used) ⌝ }
     ensures room { λ r. ⌜ made r (λ _. used < length (now (entries .entry))) ⌝ }
 {
     let pending = match pending_in(entries, used, boards, board) {
@@ -128,7 +128,7 @@ pub fn end_in<R: Part>(
     kind: EntryKind,
 ) -> Result<(), StoreRefusal>
     ensures answer { λ r. ⌜ r ≡ keepAnswer (journalMeaning (R·Part .rules .first) (now (entries .entry)) used boards) board ⌝ }
-    ensures memory { λ r. ⌜ now (entries .exit) ≡ appended r (now (entries .entry)) used (entryOf board kind (R·Part .rules .first) (take used (now (entries .entry)))) ⌝ }
+    ensures memory { λ r. ⌜ now (entries .exit) ≡ ended r (R·Part .rules .first) (now (entries .entry)) used board kind ⌝ }
     ensures pending { λ r. ⌜ made r (λ _. Ok true ≡ pendingOf (journalMeaning (R·Part .rules .first) (now (entries .entry)) used boards) board) ⌝ }
     ensures room { λ r. ⌜ made r (λ _. used < length (now (entries .entry))) ⌝ }
 {

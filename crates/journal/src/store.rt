@@ -2,12 +2,13 @@
 ghost use mathlib.Core.Bool.{false};
 ghost use mathlib.Core.List.{_++_, reverse};
 ghost use mathlib.Core.Path.{_≡_};
-ghost use Prim.Native.Nat.{_+_, _-_, _/_, _≤_};
+ghost use Prim.Native.Nat.{_≤_};
 ghost use denote.Ref.{now, name};
 ghost use lib.Dec.{lit≤};
-ghost use lib.ListN.{length, take, drop};
+ghost use lib.ListN.{length, drop};
 ghost use Rattle.journal.specs.Back.{latestKept};
-ghost use Rattle.journal.specs.Journals.{journalMeaning, entryOf, appended, usedAfter, freshEntries, journalRefused, prepared, New};
+ghost use Rattle.journal.specs.Held.{meaningOf, logOf, grown};
+ghost use Rattle.journal.specs.Journals.{entryOf, usedAfter, freshEntries, freshSpare, journalRefused, prepared, New};
 ghost use Rattle.journal.specs.Pointers.{Threaded, Traced};
 ghost use Rattle.journal.specs.declared.entry.EntryKind.the-variants.{Put, Keep, Discard};
 ghost use Rattle.std.specs.Results.{errPart};
@@ -75,8 +76,8 @@ impl<'a, R: Part> Journal<'a, R> {
     pub fn new(entries: &'a mut [Entry<R>], boards: usize) -> Result<Journal<'a, R>, MakeRefusal>
         ensures answer { λ r. ⌜ errPart r ≡ journalRefused (length (now (entries .entry))) boards ⌝ }
         ensures places { λ r. ⌜ made r (λ s. New (R·Part .rules .first) (now (entries .entry)) boards (now (s .entries)) (s .used) (s .boards)) ⌝ }
-        ensures fresh { λ r. ⌜ made r (λ s. journalMeaning (R·Part .rules .first) (now (s .entries)) (s .used) (s .boards) ≡ freshMeaning (R·Part .rules .first) ((length (now (entries .entry)) - boards) / 2) boards) ⌝ }
-        ensures traced { λ r. ⌜ made r (λ s. Traced (take (s .used) (now (s .entries))) (s .boards)) ⌝ }
+        ensures fresh { λ r. ⌜ made r (λ s. meaningOf (R·Part .rules .first) s ≡ freshMeaning (R·Part .rules .first) (freshSpare (length (now (entries .entry))) boards) boards) ⌝ }
+        ensures traced { λ r. ⌜ made r (λ s. Traced (logOf s) (s .boards)) ⌝ }
     {
         prepare(entries, boards)?;
         Ok(Journal {
@@ -92,7 +93,7 @@ pub impl<'a, R: Part> Store for Journal<'a, R> as JournalStore {
 
     const WEAR: u32 = JOURNAL_WEAR;
 
-    ghost meaning = { λ s. journalMeaning (R·Part .rules .first) (now (s .entries)) (s .used) (s .boards) };
+    ghost meaning = { meaningOf (R·Part .rules .first) };
 
     ghost wear = { 1 };
 
@@ -111,8 +112,8 @@ pub impl<'a, R: Part> Store for Journal<'a, R> as JournalStore {
     }
 
     fn standing(&self, board: usize) -> Result<R, StoreRefusal>
-        ensures value { λ r. ⌜ r ≡ standingOf (journalMeaning (R·Part .rules .first) (now (now (self .entry) .entries)) (now (self .entry) .used) (now (self .entry) .boards)) board ⌝ }
-        ensures latest { λ r. ⌜ made r (λ x. x ≡ latestKept (R·Part .rules .first) board false (reverse (take (now (self .entry) .used) (now (now (self .entry) .entries))))) ⌝ }
+        ensures value { λ r. ⌜ r ≡ standingOf (meaningOf (R·Part .rules .first) (now (self .entry))) board ⌝ }
+        ensures latest { λ r. ⌜ made r (λ x. x ≡ latestKept (R·Part .rules .first) board false (reverse (logOf (now (self .entry))))) ⌝ }
     {
         standing_in(self.entries, self.used, self.boards, board)
     }
@@ -122,12 +123,12 @@ pub impl<'a, R: Part> Store for Journal<'a, R> as JournalStore {
     }
 
     fn put(&mut self, board: usize, state: R) -> Result<(), StoreRefusal>
-        ensures answer { λ r. ⌜ r ≡ putAnswer (journalMeaning (R·Part .rules .first) (now (now (self .entry) .entries)) (now (self .entry) .used) (now (self .entry) .boards)) board ⌝ }
-        ensures after { λ _. ⌜ journalMeaning (R·Part .rules .first) (now (now (self .exit) .entries)) (now (self .exit) .used) (now (self .exit) .boards) ≡ putAfter 1 (journalMeaning (R·Part .rules .first) (now (now (self .entry) .entries)) (now (self .entry) .used) (now (self .entry) .boards)) board state ⌝ }
-        ensures memory { λ r. ⌜ now (now (self .exit) .entries) ≡ appended r (now (now (self .entry) .entries)) (now (self .entry) .used) (entryOf board Put state (take (now (self .entry) .used) (now (now (self .entry) .entries)))) ⌝ }
+        ensures answer { λ r. ⌜ r ≡ putAnswer (meaningOf (R·Part .rules .first) (now (self .entry))) board ⌝ }
+        ensures after { λ _. ⌜ meaningOf (R·Part .rules .first) (now (self .exit)) ≡ putAfter 1 (meaningOf (R·Part .rules .first) (now (self .entry))) board state ⌝ }
+        ensures memory { λ r. ⌜ now (now (self .exit) .entries) ≡ grown r (now (self .entry)) (entryOf board Put state (logOf (now (self .entry)))) ⌝ }
         ensures numbers { λ r. ⌜ (now (self .exit) .used ≡ usedAfter r (now (self .entry) .used)) × (now (self .exit) .boards ≡ now (self .entry) .boards) ⌝ }
         ensures stays { λ _. ⌜ name (now (self .exit) .entries) ≡ name (now (self .entry) .entries) ⌝ }
-        ensures traced { λ _. ⌜ (Threaded (take (now (self .entry) .used) (now (now (self .entry) .entries))) (now (self .entry) .boards) → Traced (take (now (self .exit) .used) (now (now (self .exit) .entries))) (now (self .exit) .boards)) ⌝ }
+        ensures traced { λ _. ⌜ (Threaded (logOf (now (self .entry))) (now (self .entry) .boards) → Traced (logOf (now (self .exit))) (now (self .exit) .boards)) ⌝ }
     {
         let used = self.used;
         let boards = self.boards;
@@ -141,12 +142,12 @@ pub impl<'a, R: Part> Store for Journal<'a, R> as JournalStore {
     }
 
     fn keep(&mut self, board: usize) -> Result<(), StoreRefusal>
-        ensures answer { λ r. ⌜ r ≡ keepAnswer (journalMeaning (R·Part .rules .first) (now (now (self .entry) .entries)) (now (self .entry) .used) (now (self .entry) .boards)) board ⌝ }
-        ensures after { λ _. ⌜ journalMeaning (R·Part .rules .first) (now (now (self .exit) .entries)) (now (self .exit) .used) (now (self .exit) .boards) ≡ keepAfter (journalMeaning (R·Part .rules .first) (now (now (self .entry) .entries)) (now (self .entry) .used) (now (self .entry) .boards)) board ⌝ }
-        ensures memory { λ r. ⌜ now (now (self .exit) .entries) ≡ appended r (now (now (self .entry) .entries)) (now (self .entry) .used) (entryOf board Keep (R·Part .rules .first) (take (now (self .entry) .used) (now (now (self .entry) .entries)))) ⌝ }
+        ensures answer { λ r. ⌜ r ≡ keepAnswer (meaningOf (R·Part .rules .first) (now (self .entry))) board ⌝ }
+        ensures after { λ _. ⌜ meaningOf (R·Part .rules .first) (now (self .exit)) ≡ keepAfter (meaningOf (R·Part .rules .first) (now (self .entry))) board ⌝ }
+        ensures memory { λ r. ⌜ now (now (self .exit) .entries) ≡ grown r (now (self .entry)) (entryOf board Keep (R·Part .rules .first) (logOf (now (self .entry)))) ⌝ }
         ensures numbers { λ r. ⌜ (now (self .exit) .used ≡ usedAfter r (now (self .entry) .used)) × (now (self .exit) .boards ≡ now (self .entry) .boards) ⌝ }
         ensures stays { λ _. ⌜ name (now (self .exit) .entries) ≡ name (now (self .entry) .entries) ⌝ }
-        ensures traced { λ _. ⌜ (Threaded (take (now (self .entry) .used) (now (now (self .entry) .entries))) (now (self .entry) .boards) → Traced (take (now (self .exit) .used) (now (now (self .exit) .entries))) (now (self .exit) .boards)) ⌝ }
+        ensures traced { λ _. ⌜ (Threaded (logOf (now (self .entry))) (now (self .entry) .boards) → Traced (logOf (now (self .exit))) (now (self .exit) .boards)) ⌝ }
     {
         let used = self.used;
         let boards = self.boards;
@@ -160,12 +161,12 @@ pub impl<'a, R: Part> Store for Journal<'a, R> as JournalStore {
     }
 
     fn discard(&mut self, board: usize) -> Result<(), StoreRefusal>
-        ensures answer { λ r. ⌜ r ≡ keepAnswer (journalMeaning (R·Part .rules .first) (now (now (self .entry) .entries)) (now (self .entry) .used) (now (self .entry) .boards)) board ⌝ }
-        ensures after { λ _. ⌜ journalMeaning (R·Part .rules .first) (now (now (self .exit) .entries)) (now (self .exit) .used) (now (self .exit) .boards) ≡ discardAfter (journalMeaning (R·Part .rules .first) (now (now (self .entry) .entries)) (now (self .entry) .used) (now (self .entry) .boards)) board ⌝ }
-        ensures memory { λ r. ⌜ now (now (self .exit) .entries) ≡ appended r (now (now (self .entry) .entries)) (now (self .entry) .used) (entryOf board Discard (R·Part .rules .first) (take (now (self .entry) .used) (now (now (self .entry) .entries)))) ⌝ }
+        ensures answer { λ r. ⌜ r ≡ keepAnswer (meaningOf (R·Part .rules .first) (now (self .entry))) board ⌝ }
+        ensures after { λ _. ⌜ meaningOf (R·Part .rules .first) (now (self .exit)) ≡ discardAfter (meaningOf (R·Part .rules .first) (now (self .entry))) board ⌝ }
+        ensures memory { λ r. ⌜ now (now (self .exit) .entries) ≡ grown r (now (self .entry)) (entryOf board Discard (R·Part .rules .first) (logOf (now (self .entry)))) ⌝ }
         ensures numbers { λ r. ⌜ (now (self .exit) .used ≡ usedAfter r (now (self .entry) .used)) × (now (self .exit) .boards ≡ now (self .entry) .boards) ⌝ }
         ensures stays { λ _. ⌜ name (now (self .exit) .entries) ≡ name (now (self .entry) .entries) ⌝ }
-        ensures traced { λ _. ⌜ (Threaded (take (now (self .entry) .used) (now (now (self .entry) .entries))) (now (self .entry) .boards) → Traced (take (now (self .exit) .used) (now (now (self .exit) .entries))) (now (self .exit) .boards)) ⌝ }
+        ensures traced { λ _. ⌜ (Threaded (logOf (now (self .entry))) (now (self .entry) .boards) → Traced (logOf (now (self .exit))) (now (self .exit) .boards)) ⌝ }
     {
         let used = self.used;
         let boards = self.boards;

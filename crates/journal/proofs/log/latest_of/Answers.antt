@@ -22,5 +22,6 @@ loop-place-again g c =
 
 pub returns : need.returns
 returns g c =
-    sym (at-drop-all (latestFrom (c .args .board) (c .loop-place .latest) (c .loop-place .place)) (c .args .log .now) (c .loop-place .place) (c .loop-place-test .left))
+    let i = c .loop-place .place in
+    sym (at-drop-all (latestFrom (c .args .board) (c .loop-place .latest) i) (c .args .log .now) i (c .loop-place-test .left))
     ∙ c .loop-place .inv

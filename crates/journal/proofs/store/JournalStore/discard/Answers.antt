@@ -20,6 +20,7 @@ returns-in-Ok g c =
     let log = take (s .used) entries in
     let p = c .args .board in
     let e = c .in-Ok .ensures tt in
+    let known = keep-range first entries (s .used) (s .boards) p (e .answer) in
     record {
       answer = e .answer;
       after = ap (λ es. journalMeaning first es (s .used + 1) (s .boards)) (e .memory)
@@ -28,7 +29,7 @@ returns-in-Ok g c =
       numbers = (refl, refl);
       stays = refl;
       traced = λ t. subst (λ (xs : List (Entry _)). Traced (take (s .used + 1) xs) (s .boards)) (sym (e .memory))
-          (traced-call first entries (s .used) (s .boards) p first Discard (λ i b h. h) (e .room) (keep-range first entries (s .used) (s .boards) p (e .answer)) t);
+          (traced-call first entries (s .used) (s .boards) p first Discard (λ i b h. h) (e .room) known t);
     }
 
 pub returns-in-Err : need.returns-in-Err

@@ -16,6 +16,7 @@ returns-in-Ok g c =
     let log = take (s .used) entries in
     let p = c .args .board in
     let e = c .in-Ok .ensures tt in
+    let known = put-range first entries (s .used) (s .boards) p (e .answer) in
     record {
       answer = e .answer;
       after = e .after;
@@ -23,7 +24,7 @@ returns-in-Ok g c =
       numbers = (refl, refl);
       stays = refl;
       traced = λ t. subst (λ (xs : List (Entry _)). Traced (take (s .used + 1) xs) (s .boards)) (sym (e .memory))
-          (traced-call first entries (s .used) (s .boards) p (c .args .state) Put (λ i b h. h) (e .room) (put-range first entries (s .used) (s .boards) p (e .answer)) t);
+          (traced-call first entries (s .used) (s .boards) p (c .args .state) Put (λ i b h. h) (e .room) known t);
     }
 
 pub returns-in-Err : need.returns-in-Err
