@@ -5,6 +5,7 @@ use lib.ListN.{take}
 use Rattle.std.specs.declared.result.Result.{Result}
 use Rattle.store.specs.Meaning.{Meaning}
 use Rattle.journal.specs.Journals.{journalMeaning, appended}
+use Rattle.journal.specs.Pointers.{Threaded, Traced}
 use Rattle.journal.specs.declared.entry.Entry.{Entry}
 use Rattle.journal.specs.declared.store.Journal.{Journal}
 
@@ -19,3 +20,10 @@ logOf j = take (j .used) (j .entries .now)
 -- its memory after a call that appends this entry, or is refused
 abbrev pub grown : {V E R : Type 0} → Result V E → Journal R → Entry R → List (Entry R)
 grown r j e = appended r (j .entries .now) (j .used) e
+
+-- its pointers are as they should be
+abbrev pub Threading : {R : Type 0} → Journal R → Type 0
+Threading j = Threaded (logOf j) (j .boards)
+
+abbrev pub Tracing : {R : Type 0} → Journal R → Type 0
+Tracing j = Traced (logOf j) (j .boards)

@@ -10,7 +10,7 @@ use Rattle.std.specs.declared.option.Option.{Option}
 use Rattle.std.specs.declared.option.Option.the-variants.{Some, None}
 use Rattle.std.specs.declared.result.Result.{Result}
 use Rattle.std.specs.declared.result.Result.the-variants.{Ok, Err}
-use Rattle.store.specs.Meaning.{Kept, Meaning, discarding, putAfter}
+use Rattle.store.specs.Meaning.{Kept, Meaning, discarding, freshMeaning, putAfter}
 use Rattle.store.specs.declared.refusal.MakeRefusal.{MakeRefusal}
 use Rattle.store.specs.declared.refusal.MakeRefusal.the-variants.{BadCount, BadRoom}
 use Rattle.journal.specs.Logs.{keptOf, keptAll, pendingCount, latestFrom}
@@ -69,9 +69,9 @@ firstEntry first p = record { board = p; kind = First; state = first; back = p }
 abbrev pub freshEntries : {R : Type 0} → R → ℕ → List (Entry R)
 freshEntries first n = map (firstEntry first) (counting 0 n)
 
--- the spare of a new journal: half the places that are left
-abbrev pub freshSpare : ℕ → ℕ → ℕ
-freshSpare places n = (places - n) / 2
+-- what a new journal means: its spare is half the places that are left
+abbrev pub newMeaning : {R : Type 0} → R → ℕ → ℕ → Meaning R
+newMeaning first places n = freshMeaning first ((places - n) / 2) n
 
 -- why a journal is not made: of 0 or over 64 boards, then of fewer places than boards or over 1,024
 abbrev pub journalRefused : ℕ → ℕ → Option MakeRefusal

@@ -7,13 +7,12 @@ ghost use denote.Ref.{now, name};
 ghost use lib.Dec.{lit≤};
 ghost use lib.ListN.{length, drop};
 ghost use Rattle.journal.specs.Back.{latestKept};
-ghost use Rattle.journal.specs.Held.{meaningOf, logOf, grown};
-ghost use Rattle.journal.specs.Journals.{entryOf, usedAfter, freshEntries, freshSpare, journalRefused, prepared, New};
-ghost use Rattle.journal.specs.Pointers.{Threaded, Traced};
+ghost use Rattle.journal.specs.Held.{meaningOf, logOf, grown, Threading, Tracing};
+ghost use Rattle.journal.specs.Journals.{entryOf, usedAfter, freshEntries, newMeaning, journalRefused, prepared, New};
 ghost use Rattle.journal.specs.declared.entry.EntryKind.the-variants.{Put, Keep, Discard};
 ghost use Rattle.std.specs.Results.{errPart};
 ghost use Rattle.std.specs.Vec.{made};
-ghost use Rattle.store.specs.Meaning.{freshMeaning, standingOf, putAnswer, putAfter, keepAnswer, keepAfter, discardAfter};
+ghost use Rattle.store.specs.Meaning.{standingOf, putAnswer, putAfter, keepAnswer, keepAfter, discardAfter};
 use crate::calls::end_in;
 use crate::calls::pending_in;
 use crate::calls::put_in;
@@ -76,8 +75,8 @@ impl<'a, R: Part> Journal<'a, R> {
     pub fn new(entries: &'a mut [Entry<R>], boards: usize) -> Result<Journal<'a, R>, MakeRefusal>
         ensures answer { λ r. ⌜ errPart r ≡ journalRefused (length (now (entries .entry))) boards ⌝ }
         ensures places { λ r. ⌜ made r (λ s. New (R·Part .rules .first) (now (entries .entry)) boards (now (s .entries)) (s .used) (s .boards)) ⌝ }
-        ensures fresh { λ r. ⌜ made r (λ s. meaningOf (R·Part .rules .first) s ≡ freshMeaning (R·Part .rules .first) (freshSpare (length (now (entries .entry))) boards) boards) ⌝ }
-        ensures traced { λ r. ⌜ made r (λ s. Traced (logOf s) (s .boards)) ⌝ }
+        ensures fresh { λ r. ⌜ made r (λ s. meaningOf (R·Part .rules .first) s ≡ newMeaning (R·Part .rules .first) (length (now (entries .entry))) boards) ⌝ }
+        ensures traced { λ r. ⌜ made r Tracing ⌝ }
     {
         prepare(entries, boards)?;
         Ok(Journal {
@@ -128,7 +127,7 @@ pub impl<'a, R: Part> Store for Journal<'a, R> as JournalStore {
         ensures memory { λ r. ⌜ now (now (self .exit) .entries) ≡ grown r (now (self .entry)) (entryOf board Put state (logOf (now (self .entry)))) ⌝ }
         ensures numbers { λ r. ⌜ (now (self .exit) .used ≡ usedAfter r (now (self .entry) .used)) × (now (self .exit) .boards ≡ now (self .entry) .boards) ⌝ }
         ensures stays { λ _. ⌜ name (now (self .exit) .entries) ≡ name (now (self .entry) .entries) ⌝ }
-        ensures traced { λ _. ⌜ (Threaded (logOf (now (self .entry))) (now (self .entry) .boards) → Traced (logOf (now (self .exit))) (now (self .exit) .boards)) ⌝ }
+        ensures traced { λ _. ⌜ (Threading (now (self .entry)) → Tracing (now (self .exit))) ⌝ }
     {
         let used = self.used;
         let boards = self.boards;
@@ -147,7 +146,7 @@ pub impl<'a, R: Part> Store for Journal<'a, R> as JournalStore {
         ensures memory { λ r. ⌜ now (now (self .exit) .entries) ≡ grown r (now (self .entry)) (entryOf board Keep (R·Part .rules .first) (logOf (now (self .entry)))) ⌝ }
         ensures numbers { λ r. ⌜ (now (self .exit) .used ≡ usedAfter r (now (self .entry) .used)) × (now (self .exit) .boards ≡ now (self .entry) .boards) ⌝ }
         ensures stays { λ _. ⌜ name (now (self .exit) .entries) ≡ name (now (self .entry) .entries) ⌝ }
-        ensures traced { λ _. ⌜ (Threaded (logOf (now (self .entry))) (now (self .entry) .boards) → Traced (logOf (now (self .exit))) (now (self .exit) .boards)) ⌝ }
+        ensures traced { λ _. ⌜ (Threading (now (self .entry)) → Tracing (now (self .exit))) ⌝ }
     {
         let used = self.used;
         let boards = self.boards;
@@ -166,7 +165,7 @@ pub impl<'a, R: Part> Store for Journal<'a, R> as JournalStore {
         ensures memory { λ r. ⌜ now (now (self .exit) .entries) ≡ grown r (now (self .entry)) (entryOf board Discard (R·Part .rules .first) (logOf (now (self .entry)))) ⌝ }
         ensures numbers { λ r. ⌜ (now (self .exit) .used ≡ usedAfter r (now (self .entry) .used)) × (now (self .exit) .boards ≡ now (self .entry) .boards) ⌝ }
         ensures stays { λ _. ⌜ name (now (self .exit) .entries) ≡ name (now (self .entry) .entries) ⌝ }
-        ensures traced { λ _. ⌜ (Threaded (logOf (now (self .entry))) (now (self .entry) .boards) → Traced (logOf (now (self .exit))) (now (self .exit) .boards)) ⌝ }
+        ensures traced { λ _. ⌜ (Threading (now (self .entry)) → Tracing (now (self .exit))) ⌝ }
     {
         let used = self.used;
         let boards = self.boards;
