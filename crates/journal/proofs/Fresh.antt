@@ -64,15 +64,24 @@ module _ {R : Type 0} (first : R) (xs : List (Entry R)) (n : ℕ) where
   all-from f e a zero = refl
   all-from f e a (suc m) = λ i. e a i ∷ all-from f e (a + 1) m i
 
+  -- nothing is pending
+  none-pending : pendings first (freshEntries first n ++ drop n xs) n n ≡ 0
+  none-pending = none-from (keptOf first (take n (freshEntries first n ++ drop n xs))) kept-is 0 n
+
+  same-places : n ≤ length xs → length (freshEntries first n ++ drop n xs) ≡ length xs
+  same-places h =
+      length-append (freshEntries first n) (drop n xs) ∙ (λ i. length-map-counting (firstEntry first) 0 n i + length-drop n xs i) ∙ omega arith
+
+  pub fresh-roomy : n ≤ length xs → roomy first (freshEntries first n ++ drop n xs) n n ≡ true
+  fresh-roomy h = let long = same-places h in le-leb _ _ (omega (arith, none-pending, long))
+
   -- a new journal means the first record standing everywhere, none pending, and a spare of half the places left
   pub fresh-means : n ≤ length xs → journalMeaning first (freshEntries first n ++ drop n xs) n n ≡ freshMeaning first ((length xs - n) / 2) n
   fresh-means h =
       let entries = freshEntries first n ++ drop n xs in
-      let none : pendings first entries n n ≡ 0 = none-from (keptOf first (take n entries)) kept-is 0 n in
-      let long : length entries ≡ length xs =
-      length-append (freshEntries first n) (drop n xs) ∙ (λ i. length-map-counting (firstEntry first) 0 n i + length-drop n xs i) ∙ omega arith in
-      let room : roomy first entries n n ≡ true = le-leb _ _ (omega (arith, none, long)) in
-      let half : (length entries - n - pendings first entries n n) / 2 ≡ (length xs - n) / 2 = ap (λ j. j / 2) (omega (arith, none, long)) in
+      let long = same-places h in
+      let room = fresh-roomy h in
+      let half : (length entries - n - pendings first entries n n) / 2 ≡ (length xs - n) / 2 = ap (λ j. j / 2) (omega (arith, none-pending, long)) in
       λ i. record {
         boards = all-from (keptAt first entries n n) (λ p. cond-true _ _ _ room ∙ kept-is p) 0 n i;
         spare = half i;

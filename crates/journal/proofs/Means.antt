@@ -84,8 +84,10 @@ module _ {R : Type 0} (first : R) (entries : List (Entry R)) (used n p : ℕ) (r
   one-of : (k : Kept R) (t : Bool) → isSome (k .pending) ≡ t → pendingOne k ≡ cond t 1 0
   one-of k t e = ap (λ v. cond v 1 0) e
 
+  -- the meaning after put, and that every pending record still has its place
   pub put-means : Ok false ≡ pendingOf (journalMeaning first entries used n) p → (journalMeaning first entries used n .spare ≡ 0 → ⊥)
-      → journalMeaning first (set entries used (entry p Put r b)) (used + 1) n ≡ putAfter 1 (journalMeaning first entries used n) p r
+      → (journalMeaning first (set entries used (entry p Put r b)) (used + 1) n ≡ putAfter 1 (journalMeaning first entries used n) p r)
+      × (roomy first (set entries used (entry p Put r b)) (used + 1) n ≡ true)
   put-means h z =
       let m = journalMeaning first entries used n in
       let e = entry p Put r b in
@@ -95,14 +97,17 @@ module _ {R : Type 0} (first : R) (entries : List (Entry R)) (used n p : ℕ) (r
       let none = one-of (keptOf first (take used entries) p) false (free-here first entries used n p h before) in
       let count = count-more first entries used n e room (in-range first entries used n p false h) in
       let same = length-set entries used e in
-      let then : roomy first (set entries used e) (used + 1) n ≡ true = le-leb _ _ (omega (arith, left, none, count, same)) in
-      means first entries used n e room before then (m .spare - 1) (omega (arith, left, none, count, same))
-      ∙ ap (λ (v : Answer). cond (isOk v) (record { boards = updated (putting r) (m .boards) p; spare = m .spare - 1 }) m) (put-good m p h z)
+      let then : roomy first (set entries used e) (used + 1) n ≡ true = le-leb _ _ (omega (arith, left, none, count, same)) in (
+        means first entries used n e room before then (m .spare - 1) (omega (arith, left, none, count, same))
+            ∙ ap (λ (v : Answer). cond (isOk v) (record { boards = updated (putting r) (m .boards) p; spare = m .spare - 1 }) m) (put-good m p h z),
+        then,
+      )
 
   -- the two calls that end a pending record: one fewer is pending, and one place more is used
   ends : (kind : EntryKind) → ((k : Kept R) → byKind kind r k .pending ≡ None) → Ok true ≡ pendingOf (journalMeaning first entries used n) p
-      → journalMeaning first (set entries used (entry p kind r b)) (used + 1) n
-      ≡ record { boards = updated (byKind kind r) (journalMeaning first entries used n .boards) p; spare = journalMeaning first entries used n .spare }
+      → (journalMeaning first (set entries used (entry p kind r b)) (used + 1) n
+      ≡ record { boards = updated (byKind kind r) (journalMeaning first entries used n .boards) p; spare = journalMeaning first entries used n .spare })
+      × (roomy first (set entries used (entry p kind r b)) (used + 1) n ≡ true)
   ends kind over h =
       let m = journalMeaning first entries used n in
       let e = entry p kind r b in
@@ -115,18 +120,20 @@ module _ {R : Type 0} (first : R) (entries : List (Entry R)) (used n p : ℕ) (r
       let count = count-more first entries used n e room (in-range first entries used n p true h) in
       let same = length-set entries used e in
       let then : roomy first (set entries used e) (used + 1) n ≡ true = le-leb _ _ (omega (arith, fits, one, none, count, same)) in
-      means first entries used n e room (here .0) then (m .spare) (omega (arith, fits, one, none, count, same))
+      (means first entries used n e room (here .0) then (m .spare) (omega (arith, fits, one, none, count, same)), then)
 
   pub keep-means : Ok true ≡ pendingOf (journalMeaning first entries used n) p
-      → journalMeaning first (set entries used (entry p Keep r b)) (used + 1) n ≡ keepAfter (journalMeaning first entries used n) p
+      → (journalMeaning first (set entries used (entry p Keep r b)) (used + 1) n ≡ keepAfter (journalMeaning first entries used n) p)
+      × (roomy first (set entries used (entry p Keep r b)) (used + 1) n ≡ true)
   keep-means h =
       let m = journalMeaning first entries used n in
-      ends Keep (λ k. refl) h
-      ∙ ap (λ (v : Answer). cond (isOk v) (record { boards = updated keeping (m .boards) p; spare = m .spare }) m) (keep-good m p h)
+      let done = ends Keep (λ k. refl) h in
+      (done .0 ∙ ap (λ (v : Answer). cond (isOk v) (record { boards = updated keeping (m .boards) p; spare = m .spare }) m) (keep-good m p h), done .1)
 
   pub discard-means : Ok true ≡ pendingOf (journalMeaning first entries used n) p
-      → journalMeaning first (set entries used (entry p Discard r b)) (used + 1) n ≡ discardAfter (journalMeaning first entries used n) p
+      → (journalMeaning first (set entries used (entry p Discard r b)) (used + 1) n ≡ discardAfter (journalMeaning first entries used n) p)
+      × (roomy first (set entries used (entry p Discard r b)) (used + 1) n ≡ true)
   discard-means h =
       let m = journalMeaning first entries used n in
-      ends Discard (λ k. refl) h
-      ∙ ap (λ (v : Answer). cond (isOk v) (record { boards = updated discarding (m .boards) p; spare = m .spare }) m) (keep-good m p h)
+      let done = ends Discard (λ k. refl) h in
+      (done .0 ∙ ap (λ (v : Answer). cond (isOk v) (record { boards = updated discarding (m .boards) p; spare = m .spare }) m) (keep-good m p h), done .1)

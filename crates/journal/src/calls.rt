@@ -2,7 +2,7 @@
 ghost use mathlib.Core.Bool.{true, false};
 ghost use mathlib.Core.List.{reverse};
 ghost use mathlib.Core.Path.{_≡_};
-ghost use Prim.Native.Nat.{_<_};
+ghost use Prim.Native.Nat.{_+_, _<_};
 ghost use lib.ListN.{length, take, set};
 ghost use Rattle.journal.specs.Back.{latestKept};
 ghost use Rattle.journal.specs.Journals.{journalMeaning, roomy, entryOf, appended, ended, usedAfter, PutDone};
@@ -103,6 +103,7 @@ pub fn put_in<R: Part>(
     ensures answer { λ r. ⌜ r ≡ putAnswer (journalMeaning (R·Part .rules .first) (now (entries .entry)) used boards) board ⌝ }
     ensures memory { λ r. ⌜ now (entries .exit) ≡ appended r (now (entries .entry)) used (entryOf board Put state (take used (now (entries .entry)))) ⌝ }
     ensures after { λ r. ⌜ PutDone (R·Part .rules .first) (now (entries .entry)) used boards board state (now (entries .exit)) (usedAfter r used) ⌝ }
+    ensures roomy { λ r. ⌜ made r (λ _. roomy (R·Part .rules .first) (now (entries .exit)) (used + 1) boards ≡ true) ⌝ }
     ensures room { λ r. ⌜ made r (λ _. used < length (now (entries .entry))) ⌝ }
 {
     let pending = match pending_in(entries, used, boards, board) {

@@ -7,7 +7,7 @@ ghost use denote.Ref.{now, name};
 ghost use lib.Dec.{lit≤};
 ghost use lib.ListN.{length, drop};
 ghost use Rattle.journal.specs.Back.{latestKept};
-ghost use Rattle.journal.specs.Held.{meaningOf, logOf, grown, Threading, Tracing};
+ghost use Rattle.journal.specs.Held.{meaningOf, logOf, grown, Threading, Tracing, HasPlaces};
 ghost use Rattle.journal.specs.Journals.{entryOf, usedAfter, freshEntries, newMeaning, journalRefused, prepared, New};
 ghost use Rattle.journal.specs.declared.entry.EntryKind.the-variants.{Put, Keep, Discard};
 ghost use Rattle.std.specs.Results.{errPart};
@@ -77,6 +77,7 @@ impl<'a, R: Part> Journal<'a, R> {
         ensures places { λ r. ⌜ made r (λ s. New (R·Part .rules .first) (now (entries .entry)) boards (now (s .entries)) (s .used) (s .boards)) ⌝ }
         ensures fresh { λ r. ⌜ made r (λ s. meaningOf (R·Part .rules .first) s ≡ newMeaning (R·Part .rules .first) (length (now (entries .entry))) boards) ⌝ }
         ensures traced { λ r. ⌜ made r Tracing ⌝ }
+        ensures room { λ r. ⌜ made r (HasPlaces (R·Part .rules .first)) ⌝ }
     {
         prepare(entries, boards)?;
         Ok(Journal {
@@ -128,6 +129,7 @@ pub impl<'a, R: Part> Store for Journal<'a, R> as JournalStore {
         ensures numbers { λ r. ⌜ (now (self .exit) .used ≡ usedAfter r (now (self .entry) .used)) × (now (self .exit) .boards ≡ now (self .entry) .boards) ⌝ }
         ensures stays { λ _. ⌜ name (now (self .exit) .entries) ≡ name (now (self .entry) .entries) ⌝ }
         ensures traced { λ _. ⌜ (Threading (now (self .entry)) → Tracing (now (self .exit))) ⌝ }
+        ensures places { λ _. ⌜ (HasPlaces (R·Part .rules .first) (now (self .entry)) → HasPlaces (R·Part .rules .first) (now (self .exit))) ⌝ }
     {
         let used = self.used;
         let boards = self.boards;
@@ -147,6 +149,7 @@ pub impl<'a, R: Part> Store for Journal<'a, R> as JournalStore {
         ensures numbers { λ r. ⌜ (now (self .exit) .used ≡ usedAfter r (now (self .entry) .used)) × (now (self .exit) .boards ≡ now (self .entry) .boards) ⌝ }
         ensures stays { λ _. ⌜ name (now (self .exit) .entries) ≡ name (now (self .entry) .entries) ⌝ }
         ensures traced { λ _. ⌜ (Threading (now (self .entry)) → Tracing (now (self .exit))) ⌝ }
+        ensures places { λ _. ⌜ (HasPlaces (R·Part .rules .first) (now (self .entry)) → HasPlaces (R·Part .rules .first) (now (self .exit))) ⌝ }
     {
         let used = self.used;
         let boards = self.boards;
@@ -166,6 +169,7 @@ pub impl<'a, R: Part> Store for Journal<'a, R> as JournalStore {
         ensures numbers { λ r. ⌜ (now (self .exit) .used ≡ usedAfter r (now (self .entry) .used)) × (now (self .exit) .boards ≡ now (self .entry) .boards) ⌝ }
         ensures stays { λ _. ⌜ name (now (self .exit) .entries) ≡ name (now (self .entry) .entries) ⌝ }
         ensures traced { λ _. ⌜ (Threading (now (self .entry)) → Tracing (now (self .exit))) ⌝ }
+        ensures places { λ _. ⌜ (HasPlaces (R·Part .rules .first) (now (self .entry)) → HasPlaces (R·Part .rules .first) (now (self .exit))) ⌝ }
     {
         let used = self.used;
         let boards = self.boards;

@@ -5,7 +5,7 @@ use native.Mathlib.Omega.{arith}
 use lib.ListN.{length, take}
 use Rattle.std.specs.declared.result.Result.the-variants.{Ok}
 use Rattle.journal.specs.Logs.{latestFrom}
-use Rattle.journal.specs.Journals.{journalMeaning}
+use Rattle.journal.specs.Journals.{journalMeaning, roomy}
 use Rattle.journal.proofs.Answered.{put-good}
 use Rattle.journal.proofs.Means.{put-means, spare-left}
 use Rattle.journal.proofs.calls.put_in.Needs as need
@@ -21,10 +21,12 @@ returns g c =
     let free = ap (λ (b : Bool). Ok b) (sym (c .if-pending .left)) ∙ c .in-Ok .ensures tt in
     let some : journalMeaning first entries used n .spare ≡ 0 → ⊥ = λ e. c .if-spare-in-eq0 .left (c .spare-in .ensures ∙ e) in
     let left = spare-left first entries used n p some in
+    let done = put-means first entries used n p (c .args .state) (latestFrom p (length log) 0 log) free some in
     record {
       answer = put-good (journalMeaning first entries used n) p free some;
       memory = c .append .ensures;
       after = ap (λ es. journalMeaning first es (used + 1) n) (c .append .ensures)
-          ∙ put-means first entries used n p (c .args .state) (latestFrom p (length log) 0 log) free some;
+          ∙ done .0;
+      roomy = ap (λ es. roomy first es (used + 1) n) (c .append .ensures) ∙ done .1;
       room = omega (arith, left);
     }

@@ -2,6 +2,7 @@ use mathlib.Core.Path.{refl, sym, ap, subst, _∙_}
 use mathlib.Core.List.{List}
 use Prim.Native.Nat.{_+_}
 use lib.ListN.{length, take}
+use Rattle.journal.specs.Journals.{roomy}
 use Rattle.journal.specs.Pointers.{Traced}
 use Rattle.journal.specs.declared.entry.Entry.{Entry}
 use Rattle.journal.specs.declared.entry.EntryKind.the-variants.{Put}
@@ -23,6 +24,7 @@ returns-in-Ok g c =
       memory = e .memory;
       numbers = (refl, refl);
       stays = refl;
+      places = λ _. e .roomy;
       traced = λ t. subst (λ (xs : List (Entry _)). Traced (take (s .used + 1) xs) (s .boards)) (sym (e .memory))
           (traced-call first entries (s .used) (s .boards) p (c .args .state) Put (λ i b h. h) (e .room) known t);
     }
@@ -38,5 +40,6 @@ returns-in-Err g c =
       memory = e .memory;
       numbers = (refl, refl);
       stays = refl;
+      places = λ h. ap (λ es. roomy first es (s .used) (s .boards)) (e .memory) ∙ h;
       traced = λ t. subst (λ (xs : List (Entry _)). Traced (take (s .used) xs) (s .boards)) (sym (e .memory)) (traced _ (s .boards) t);
     }
