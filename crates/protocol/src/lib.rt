@@ -1,2 +1,4 @@
 // The rules of the turns as definitions (specs/), and what is promised of every run.
+#![tactic(auto)]
+
 pub mod laws;

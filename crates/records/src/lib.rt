@@ -1,4 +1,6 @@
 // What a board's record is, and what its story makes of it.
+#![tactic(auto)]
+
 pub mod event;
 pub mod feed;
 pub mod harness;

@@ -3,6 +3,8 @@
 // `harness pick lifted sum` or `feed pick tension length` is the record to start from, in place of
 // the first one. Sum, tension and length are bits, in hexadecimal. For each story the records of a
 // harness board and of a feed drive are written.
+#![tactic(auto)]
+
 use anyhow::anyhow;
 use records::event::Event;
 use records::feed::Feed;

@@ -1,4 +1,6 @@
 // Reports: turn lines, then board lines, then the last line.
+#![tactic(auto)]
+
 pub mod line;
 pub mod lines;
 mod place;

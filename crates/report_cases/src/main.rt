@@ -1,5 +1,7 @@
 // Writes reports into memories of many sizes, and shows what the memory then holds. Memory that no
 // line has reached shows as `#`.
+#![tactic(auto)]
+
 use records::feed::Feed;
 use records::harness::Harness;
 use report::state::BoardState;

@@ -1,6 +1,8 @@
 // Answers every run file of a table on standard input, one file to a line. In a line `|` stands
 // for byte 0A, `~` for byte 0D and `^` for a tab; pieces are divided by `;`, and `N*piece` stands
 // for N such pieces. A line `@name` stands for the file of that name.
+#![tactic(auto)]
+
 use runner::answer;
 use std::fs;
 

@@ -1,4 +1,6 @@
 // What the program writes for a run file.
+#![tactic(auto)]
+
 ghost use Rattle.std.specs.Prelude.{◌≡◌, IfOk, vec_len, string_bytes};
 ghost use Rattle.runfile.specs.Files.{file_of};
 ghost use Rattle.runner.specs.Answers.{part_name, summary, refusal_line, answer_to};

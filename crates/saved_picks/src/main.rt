@@ -1,4 +1,6 @@
 // Reads a run file from standard input, and writes what it is answered with.
+#![tactic(auto)]
+
 use runfile::file::MAX_BYTES;
 use runner::answer;
 use std::io::Read;

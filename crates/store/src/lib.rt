@@ -1,4 +1,6 @@
 // Stores of checkpoints, by what they mean.
+#![tactic(auto)]
+
 pub mod refusal;
 pub mod slots;
 pub mod traits;

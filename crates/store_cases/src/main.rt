@@ -2,6 +2,8 @@
 // `slots places boards` and `journal places boards` make a store and give it to the commands that follow: `put p n` puts the
 // record of pick n for board p, `keep p`, `drop p`, `standing p`, `pending p` and `spare` do and ask
 // what their names say. A refusal is written as its number.
+#![tactic(auto)]
+
 use anyhow::anyhow;
 use journal::entry::{Entry, EntryKind};
 use journal::store::Journal;

@@ -1,4 +1,6 @@
 // What boards do and tell one another, and what is answered: turns, rounds, messages and answers as types.
+#![tactic(auto)]
+
 pub mod answer;
 pub mod message;
 pub mod round;
