@@ -7,6 +7,6 @@ pub loop-board-preserved : goal.loop-board-preserved
 loop-board-preserved g c =
     let n = c.loop-board.board in
     let first = g.R.Part.rules.first in
-    c.clear-board.ensures
+    c.clear_board.ensures
     ∙ ap (λ xs. set (set xs (2 * n) (filled true first)) (2 * n + 1) (filled false first)) c.loop-board.invariant
     ∙ fresh_more first c.args.slots.now n (omega arith)

@@ -14,7 +14,7 @@ returns-then-board-slots g c =
 pub returns-then-not-pending : goal.returns-then-not-pending
 returns-then-not-pending g c =
     let xs = c.args.slots.now in
-    let e = keep_free xs c.args.board _ c.slot-at-pending.ensures c.if-not-pending.true in
+    let e = keep_free xs c.args.board _ c.slot_at-pending.ensures c.if-not-pending.true in
     record { answer = e; after = keep_refused (slot_meaning xs) c.args.board _ e; memory = by_answer _ _ _ _ e }
 
 pub returns : goal.returns
@@ -22,12 +22,12 @@ returns g c =
     let xs = c.args.slots.now in
     let p = c.args.board in
     let first = g.R.Part.rules.first in
-    let e = keep_taken xs p _ c.slot-at-pending.ensures c.if-not-pending.false in
-    let read = ap (state_or first) c.slot-at-pending.ensures in
+    let e = keep_taken xs p _ c.slot_at-pending.ensures c.if-not-pending.false in
+    let read = ap (state_or first) c.slot_at-pending.ensures in
     let written = c.fill-2.ensures ∙ ap (λ l. set l (2 * p + 1) (filled false c.first.result)) c.fill.ensures in
     record {
       answer = e;
-      after = ap slot_meaning written ∙ keep_after_lem xs p _ c.slot-at-pending.ensures c.first.result c.if-not-pending.false;
+      after = ap slot_meaning written ∙ keep_after_lem xs p _ c.slot_at-pending.ensures c.first.result c.if-not-pending.false;
       memory =
           written
           ∙ ap (λ r. set (set xs (2 * p) (filled true r)) (2 * p + 1) (filled false c.first.result)) (sym read)

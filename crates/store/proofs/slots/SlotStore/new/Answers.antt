@@ -12,7 +12,7 @@ returns g c =
     let n = c.args.boards in
     let past = drop (2 * n) c.args.slots.now in
     let front : take (2 * n) c.prepare.new.slots ≡ fresh_slots first n =
-    ap (take (2 * n)) c.in-ok-prepare.ensures.memory ∙ take_at (fresh_slots first n) past (2 * n) (length_fresh first n) in
+    ap (take (2 * n)) c.in_ok-prepare.ensures.memory ∙ take_at (fresh_slots first n) past (2 * n) (length_fresh first n) in
     let means = ap (λ ks. record { boards = ks; spare = 1 }) (pairs_fresh first n) in
     record {
       answer = c.hold.ensures.answer ∙ ap (λ k. slots_refused k n) c.prepare.auto.slots;
