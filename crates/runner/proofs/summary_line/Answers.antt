@@ -7,7 +7,7 @@ pub returns-in-Slots : goal.returns-in-Slots
 returns-in-Slots c =
     IfOk-weaker c.format.result _ _
     (λ s e. e ∙ (λ i. decimal c.args.loom.boards ++ (codes " boards, " ++ (store_name (sym c.in-Slots.is i) ++ (codes ", "
-    ++ (c.part-name-part.ensures i ++ (codes " records, " ++ (decimal c.args.turns ++ codes " turns\n"))))))))
+    ++ (c.part_name-part.ensures i ++ (codes " records, " ++ (decimal c.args.turns ++ codes " turns\n"))))))))
     c.format.ensures.ok
 
 pub returns-in-Journal : goal.returns-in-Journal
@@ -18,7 +18,7 @@ returns-in-Journal c =
     let part : List ℕ = part_name c.args.loom.part in
     IfOk-weaker c.format-in-Journal.result _ _
     (λ s e. e
-    ∙ (λ i. boards ++ (codes " boards, journal of " ++ (decimal places ++ (codes " places, " ++ (c.part-name-part.ensures i ++ turns)))))
+    ∙ (λ i. boards ++ (codes " boards, journal of " ++ (decimal places ++ (codes " places, " ++ (c.part_name-part.ensures i ++ turns)))))
     ∙ ap (λ xs. boards ++ (codes " boards, journal of " ++ xs))
     (sym (append_assoc (decimal places) (codes " places") (codes ", " ++ (part ++ turns))))
     ∙ (λ i. boards ++ (codes " boards, " ++ (store_name (sym c.in-Journal.is i) ++ (codes ", " ++ (part ++ turns))))))

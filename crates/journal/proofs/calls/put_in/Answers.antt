@@ -14,7 +14,7 @@ returns g c =
     let p = c.args.board in
     let log = take used entries in
     let free = ap (λ (b : Bool). Ok b) (sym c.if-pending.false) ∙ c.in-Ok.ensures in
-    let some : (journal_meaning first entries used n).spare ≡ 0 → ⊥ = λ e. c.if-spare-in-eq0.false (c.spare-in.ensures ∙ e) in
+    let some : (journal_meaning first entries used n).spare ≡ 0 → ⊥ = λ e. c.if-spare_in-eq0.false (c.spare_in.ensures ∙ e) in
     let left = spare_left first entries used n p some in
     let done = put_means first entries used n p c.args.state (latest_from p (length log) 0 log) free some in
     record {

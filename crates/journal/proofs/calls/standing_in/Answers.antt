@@ -16,8 +16,8 @@ returns g c =
     let first = g.R.Part.rules.first in
     let log = take c.args.used c.args.entries.now in
     let p = c.args.board in
-    let found = c.kept-in-found.ensures ∙ ap (λ log. kept_of first log p) c.log-of.ensures in
+    let found = c.kept_in-found.ensures ∙ ap (λ log. kept_of first log p) c.log_of.ensures in
     record {
-      value = standing_some first c.args.entries.now c.args.used c.args.boards p c.kept-in-found.result c.if-board-boards.false found;
+      value = standing_some first c.args.entries.now c.args.used c.args.boards p c.kept_in-found.result c.if-board-boards.false found;
       latest = ap (λ (k : Kept _). k.standing) found ∙ stands_latest first p log;
     }

@@ -2,15 +2,15 @@ use Rattle.std.proofs.Common.{◌≡◌, ℕ, ◌+◌, true, false, sym, ap, ◌
 use Rattle.lines.proofs.Numbers.{Sofar, sofar_more, sofar_over, ends_at_other, ends_at_last}
 use Rattle.lines.proofs.number.leading_digits.Goals as goal
 
-pub returns-in-err-value : goal.returns-in-err-value
-returns-in-err-value c =
-    rw c.from-residual.ensures
+pub returns-in_err-value : goal.returns-in_err-value
+returns-in_err-value c =
+    rw c.from_residual.ensures
     (sofar_over c.args.bytes.now c.loop-len.value c.loop-len.len c.loop-len.invariant.0 c.loop-len-test.true
-    (cc) c.in-err-value.ensures)
+    (cc) c.in_err-value.ensures)
 
 pub loop-len-preserved : goal.loop-len-preserved
 loop-len-preserved c =
-    let checked = c.in-ok-value.ensures in (
+    let checked = c.in_ok-value.ensures in (
       subst (λ (v : ℕ). Sofar c.args.bytes.now v (c.loop-len.len + 1)) (sym checked.1)
           (sofar_more c.args.bytes.now c.loop-len.value c.loop-len.len c.loop-len.invariant.0 c.loop-len-test.true (cc)),
       omega arith,
@@ -20,6 +20,6 @@ pub returns-after-loop-len : goal.returns-after-loop-len
 returns-after-loop-len c =
     ends_at_last c.args.bytes.now c.loop-len.value c.loop-len.len c.loop-len.invariant.0 c.loop-len.invariant.1 c.loop-len-test.false
 
-pub returns-then-not-is-ascii-digit : goal.returns-then-not-is-ascii-digit
-returns-then-not-is-ascii-digit c =
+pub returns-then-not-is_ascii_digit : goal.returns-then-not-is_ascii_digit
+returns-then-not-is_ascii_digit c =
     ends_at_other c.args.bytes.now c.loop-len.value c.loop-len.len c.loop-len.invariant.0 c.loop-len.invariant.1 c.loop-len-test.true (cc)

@@ -3,7 +3,7 @@ use Rattle.runfile.proofs.file.read.Goals as goal
 
 pub returns : goal.returns
 returns c = record {
-  meant = c.read-all.ensures;
-  reads_back = reads_back c.args.bytes.now c.read-all.result c.read-all.ensures;
-  spelled = spelled c.args.bytes.now c.read-all.result c.read-all.ensures;
+  meant = c.read_all.ensures;
+  reads_back = reads_back c.args.bytes.now c.read_all.result c.read_all.ensures;
+  spelled = spelled c.args.bytes.now c.read_all.result c.read_all.ensures;
 }

@@ -13,29 +13,29 @@ loop-turns-init c =
     subst (λ (ts : List Turn). Halfway (place c.args.reader) ts (place c.args.reader)) (sym c.new-turns.ensures.items)
     (halfway_none (place c.args.reader) c.requires)
 
-pub returns-in-err-next : goal.returns-in-err-next
-returns-in-err-next c =
-    let p = err_from_is_err_and c.from-residual.result c.from-residual.ensures.1 in
+pub returns-in_err-next : goal.returns-in_err-next
+returns-in_err-next c =
+    let p = err_from_is_err_and c.from_residual.result c.from_residual.ensures.1 in
     rw (p.1, p.2)
     (halfway_err (place c.args.reader) (vec_items c.loop-turns.turns) (place c.loop-turns.reader) _ c.loop-turns.invariant
-    (from_err _ _ _ c.in-err-next.ensures.answer))
+    (from_err _ _ _ c.in_err-next.ensures.answer))
 
 taken : (c : goal.In-ok-push)
     → Ok (Some c.in-Some.next) ≡ numbered c.loop-turns.reader.line (next_turn (place c.loop-turns.reader))
-taken c = ap Ok (sym c.in-Some.is) ∙ c.in-ok-next.ensures.answer
+taken c = ap Ok (sym c.in-Some.is) ∙ c.in_ok-next.ensures.answer
 
 pub loop-turns-smaller : goal.loop-turns-smaller
 loop-turns-smaller c =
-    (step (place c.args.reader) (vec_items c.loop-turns.turns) (place c.loop-turns.reader) (place c.next-turn.new.self) c.in-Some.next
-    c.loop-turns.invariant (taken c) c.next-turn.ensures.after).0
+    (step (place c.args.reader) (vec_items c.loop-turns.turns) (place c.loop-turns.reader) (place c.next_turn.new.self) c.in-Some.next
+    c.loop-turns.invariant (taken c) c.next_turn.ensures.after).0
 
 pub loop-turns-preserved : goal.loop-turns-preserved
 loop-turns-preserved c =
-    subst (λ (ts : List Turn). Halfway (place c.args.reader) ts (place c.next-turn.new.self)) (sym c.in-ok-push.ensures.items)
-    (step (place c.args.reader) (vec_items c.loop-turns.turns) (place c.loop-turns.reader) (place c.next-turn.new.self) c.in-Some.next
-    c.loop-turns.invariant (taken c) c.next-turn.ensures.after).1
+    subst (λ (ts : List Turn). Halfway (place c.args.reader) ts (place c.next_turn.new.self)) (sym c.in_ok-push.ensures.items)
+    (step (place c.args.reader) (vec_items c.loop-turns.turns) (place c.loop-turns.reader) (place c.next_turn.new.self) c.in-Some.next
+    c.loop-turns.invariant (taken c) c.next_turn.ensures.after).1
 
 pub returns : goal.returns
 returns c =
     halfway_end (place c.args.reader) (vec_items c.loop-turns.turns) (place c.loop-turns.reader) c.loop-turns.invariant
-    (from_none _ _ (ap Ok (sym c.in-default.is) ∙ c.in-ok-next.ensures.answer))
+    (from_none _ _ (ap Ok (sym c.in-default.is) ∙ c.in_ok-next.ensures.answer))

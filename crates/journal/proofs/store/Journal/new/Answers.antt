@@ -11,7 +11,7 @@ returns g c =
     let first = g.R.Part.rules.first in
     let entries = c.args.entries.now in
     let n = c.args.boards in
-    let done = c.in-ok-prepare.ensures in
+    let done = c.in_ok-prepare.ensures in
     let log = ap (take n) done.memory ∙ log_is first entries n in
     record {
       answer = done.answer;
