@@ -20,7 +20,7 @@ returns-in_err-next c =
     (halfway_err (place c.args.reader) (vec_items c.loop-turns.turns) (place c.loop-turns.reader) _ c.loop-turns.invariant
     (from_err _ _ _ c.in_err-next.ensures.answer))
 
-taken : (c : goal.In-ok-push)
+taken : (c : goal.In_ok-push)
     → Ok (Some c.in-Some.next) ≡ numbered c.loop-turns.reader.line (next_turn (place c.loop-turns.reader))
 taken c = ap Ok (sym c.in-Some.is) ∙ c.in_ok-next.ensures.answer
 
@@ -38,4 +38,4 @@ loop-turns-preserved c =
 pub returns : goal.returns
 returns c =
     halfway_end (place c.args.reader) (vec_items c.loop-turns.turns) (place c.loop-turns.reader) c.loop-turns.invariant
-    (from_none _ _ (ap Ok (sym c.in-default.is) ∙ c.in_ok-next.ensures.answer))
+    (from_none _ _ (ap Ok (sym c.in_default.is) ∙ c.in_ok-next.ensures.answer))
