@@ -1,10 +1,10 @@
 -- What put, keep and drop answer, by whether a record is pending and by the spare; for every store's meaning. Assumes nothing.
-use Rattle.std.proofs.Common.{◌≡◌, ℕ, ◌<◌, Bool, true, false, cond, eqb, is_some, Some, None, Ok, Err, Option, Result, sym, refl, ap, ◌∙◌, arith}
+use Rattle.std.proofs.Common.{◌≡◌, ℕ, Bool, true, false, cond, eqb, is_some, Some, None, Ok, Err, Option, Result, sym, refl, ap, ◌∙◌, arith}
 use Rattle.std.specs.List.{slice_get}
 use Rattle.std.proofs.lemmas.Bool.{cond-true, cond-false, eq-eqb, ne_eqb}
-use Rattle.store.specs.Meaning.{Kept, Meaning, Answer, pending_at, pending_of, put_under, put_at, put_answer, keep_under, keep_at, keep_answer}
+use Rattle.store.specs.Meaning.{Kept, Meaning, pending_at, pending_of, put_under, put_at, put_answer, keep_under, keep_at, keep_answer}
 use Rattle.store.specs.declared.refusal.StoreRefusal.{StoreRefusal}
-use Rattle.store.specs.declared.refusal.StoreRefusal.TheVariants.{BadBoard, WrongPending, NoSpare}
+use Rattle.store.specs.declared.refusal.StoreRefusal.TheVariants.{WrongPending, NoSpare}
 
 pub err_not_ok : {A E : Type 0} {e : E} {x : A} → Err e ≡ Ok x → ⊥
 err_not_ok h = let z : ◌≡◌ {A = ℕ} 0 1 = cc in omega arith

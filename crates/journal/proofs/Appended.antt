@@ -1,12 +1,12 @@
 -- What one entry more makes of a journal. Assumes nothing.
-use Rattle.std.proofs.Common.{◌≡◌, ℕ, ◌+◌, ◌-◌, ◌/◌, ◌<◌, ◌≤◌, Bool, true, false, cond, eqb, leb, List, [], ◌∷◌, ◌++◌, map, length, take, set, is_some, Some, None, fold, sum_by, Option, sym, refl, ap, ◌∙◌, arith, length-set}
-use Rattle.std.specs.List.{slice_get, range_with_len}
+use Rattle.std.proofs.Common.{◌≡◌, ℕ, ◌+◌, ◌<◌, true, List, [], ◌∷◌, ◌++◌, map, length, take, set, sym, refl, ap, ◌∙◌}
+use Rattle.std.specs.List.{range_with_len}
 use Rattle.std.proofs.lemmas.List.{take_more_set}
 use Rattle.std.proofs.lemmas.List.Sums.{fold_push}
-use Rattle.std.proofs.lemmas.Bool.{cond-true, cond-false, eq-eqb, ne_eqb, leb-true, le-leb}
-use Rattle.store.specs.Meaning.{Kept, updated}
+use Rattle.std.proofs.lemmas.Bool.{cond-true, cond-false, eq-eqb, ne_eqb}
+use Rattle.store.specs.Meaning.{updated}
 use Rattle.journal.specs.Logs.{by_kind, told, kept_of, kept_all, pending_one, pending_count}
-use Rattle.journal.specs.Journals.{pendings, roomy, counted, kept_at, journal_meaning}
+use Rattle.journal.specs.Journals.{pendings, roomy, kept_at}
 use Rattle.journal.specs.declared.entry.Entry.{Entry}
 use Rattle.journal.proofs.Boards.{nth_board, updated_board, sum-updated}
 

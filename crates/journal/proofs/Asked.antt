@@ -1,7 +1,6 @@
 -- What a journal answers of a board. Assumes nothing.
-use Rattle.std.proofs.Common.{◌≡◌, ℕ, ◌<◌, ◌≤◌, Bool, true, false, cond, List, take, is_some, Some, None, Ok, Err, Option, Result, sym, refl, ap, ◌∙◌}
+use Rattle.std.proofs.Common.{◌≡◌, ℕ, ◌<◌, ◌≤◌, Bool, true, false, List, take, is_some, Ok, Err, Option, sym, refl, ap, ◌∙◌}
 use Rattle.store.specs.Meaning.{Kept, standing_at, standing_of, pending_at, pending_of}
-use Rattle.store.specs.declared.refusal.StoreRefusal.{StoreRefusal}
 use Rattle.store.specs.declared.refusal.StoreRefusal.TheVariants.{BadBoard}
 use Rattle.journal.specs.Logs.{as_kept, kept_of}
 use Rattle.journal.specs.Journals.{roomy, counted, kept_at, journal_meaning}

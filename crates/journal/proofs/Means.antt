@@ -1,11 +1,9 @@
 -- What put, keep and drop leave of a journal's meaning. Assumes nothing.
-use Rattle.std.proofs.Common.{◌≡◌, ℕ, ◌+◌, ◌-◌, ◌/◌, ◌<◌, ◌≤◌, Bool, true, false, cond, leb, List, [], ◌∷◌, map, length, take, set, is_some, is_ok, Some, None, Ok, Err, Option, Result, sym, refl, ap, ◌∙◌, ⊎_elim, arith, length-set}
-use Rattle.std.specs.List.{range_with_len}
-use Rattle.std.proofs.lemmas.Bool.{cases_lt, cond-true, leb-true, le-leb}
-use Rattle.store.specs.Meaning.{Kept, Meaning, Answer, updated, putting, keeping, discarding}
-use Rattle.store.specs.Meaning.{pending_at, pending_of, put_answer, put_after, keep_answer, keep_after, discard_after}
+use Rattle.std.proofs.Common.{◌≡◌, ℕ, ◌+◌, ◌-◌, ◌/◌, ◌<◌, ◌≤◌, Bool, true, false, cond, List, length, take, set, is_some, is_ok, None, Ok, Option, Result, sym, refl, ap, ◌∙◌, ⊎_elim, arith, length-set}
+use Rattle.std.proofs.lemmas.Bool.{cases_lt, leb-true, le-leb}
+use Rattle.store.specs.Meaning.{Kept, Answer, updated, putting, keeping, discarding}
+use Rattle.store.specs.Meaning.{pending_at, pending_of, put_after, keep_after, discard_after}
 use Rattle.store.specs.declared.refusal.StoreRefusal.{StoreRefusal}
-use Rattle.store.specs.declared.refusal.StoreRefusal.TheVariants.{BadBoard}
 use Rattle.journal.specs.Logs.{by_kind, kept_of, pending_one}
 use Rattle.journal.specs.Journals.{pendings, roomy, counted, kept_at, journal_meaning}
 use Rattle.journal.specs.declared.entry.Entry.{Entry}

@@ -1,5 +1,5 @@
 -- A journal as code holds it: its memory, how many places are used, how many boards it has.
-use Rattle.std.specs.Prelude.{◌≡◌, ℕ, true, List, take, Result}
+use Rattle.std.specs.Prelude.{◌≡◌, true, List, take, Result}
 use Rattle.store.specs.Meaning.{Meaning}
 use Rattle.journal.specs.Journals.{journal_meaning, roomy, appended}
 use Rattle.journal.specs.Pointers.{Threaded, Traced}

@@ -1,5 +1,5 @@
 -- What a journal means. It has C places, of which U are used; K of its boards have a record pending.
-use Rattle.std.specs.Prelude.{◌≡◌, ℕ, ◌+◌, ◌-◌, ◌/◌, Bool, true, false, cond, ◌||◌, List, [], ◌∷◌, ◌++◌, map, length, take, drop, Some, None, Ok, Err, Option, Result, ◌==◌, nat_le, nat_lt, slice_set}
+use Rattle.std.specs.Prelude.{◌≡◌, ℕ, ◌+◌, ◌-◌, ◌/◌, Bool, cond, ◌||◌, List, ◌++◌, map, length, take, drop, Some, None, Ok, Err, Option, Result, ◌==◌, nat_le, nat_lt, slice_set}
 use Rattle.std.specs.List.{range_with_len}
 use Rattle.store.specs.Meaning.{Kept, Meaning, discarding, fresh_meaning, put_after}
 use Rattle.store.specs.declared.refusal.MakeRefusal.{MakeRefusal}
@@ -7,7 +7,7 @@ use Rattle.store.specs.declared.refusal.MakeRefusal.TheVariants.{BadCount, BadRo
 use Rattle.journal.specs.Logs.{kept_of, kept_all, pending_count, latest_from}
 use Rattle.journal.specs.declared.entry.Entry.{Entry}
 use Rattle.journal.specs.declared.entry.EntryKind.{EntryKind}
-use Rattle.journal.specs.declared.entry.EntryKind.TheVariants.{First, Put, Keep, Discard}
+use Rattle.journal.specs.declared.entry.EntryKind.TheVariants.{First}
 
 -- K, by the used entries
 abbrev pub pendings : {R : Type 0} → R → List (Entry R) → ℕ → ℕ → ℕ

@@ -1,5 +1,5 @@
 -- What a log of entries keeps of each board.
-use Rattle.std.specs.Prelude.{ℕ, ◌+◌, Bool, cond, List, [], ◌∷◌, map, is_some, Some, None, fold, sum_by, Option, ◌==◌}
+use Rattle.std.specs.Prelude.{ℕ, ◌+◌, cond, List, [], ◌∷◌, map, is_some, None, fold, sum_by, Option, ◌==◌}
 use Rattle.std.specs.List.{range_with_len}
 use Rattle.store.specs.Meaning.{Kept, putting, keeping, discarding}
 use Rattle.journal.specs.declared.entry.Entry.{Entry}

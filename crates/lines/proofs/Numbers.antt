@@ -1,9 +1,9 @@
 -- What the loop over a number's digits keeps. Assumes nothing.
-use Rattle.std.proofs.Common.{◌≡◌, ℕ, zero, suc, ◌+◌, ◌-◌, ◌*◌, ◌^◌, ◌<◌, ◌≤◌, Bool, true, false, cond, not, ◌&&◌, eqb, ltb, List, [], ◌∷◌, ◌++◌, length, get_or, take, drop, Some, None, Option, sym, refl, ap, ◌∙◌, subst, mul-le-mul_left, arith, rules}
+use Rattle.std.proofs.Common.{◌≡◌, ℕ, ◌+◌, ◌-◌, ◌*◌, ◌^◌, ◌<◌, ◌≤◌, true, false, cond, ◌&&◌, ltb, List, [], ◌∷◌, ◌++◌, length, get_or, take, drop, Some, None, sym, refl, ap, ◌∙◌, arith}
 use Rattle.std.specs.Char.{is_ascii_digit}
 use Rattle.std.proofs.lemmas.List.{append-nil, append_assoc, drop_more, take_more, at_drop_more, at_drop_all, drop_all}
 use Rattle.std.proofs.lemmas.Bool.{cond-true, cond-false, le-ltb, lt-ltb, and_left, and_right, and_from}
-use Rattle.lines.specs.Numbers.{digits, after_digits, value_from, plain, is_number, number, Leading}
+use Rattle.lines.specs.Numbers.{digits, after_digits, value_from, plain, number, Leading}
 
 -- the first n bytes are digits, and v is what they write
 pub record Sofar (bs : List ℕ) (v n : ℕ) : Type 0 where

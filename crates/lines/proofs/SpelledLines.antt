@@ -1,11 +1,11 @@
 -- Turn lines and first lines that are spelled are read back, and what is read was spelled so. Assumes nothing.
-use Rattle.std.proofs.Common.{◌≡◌, ℕ, ◌+◌, ◌^◌, ◌<◌, ◌≤◌, Bool, true, false, cond, ◌&&◌, eqb, leb, List, [], ◌∷◌, ◌++◌, Some, None, Option, sym, refl, ap, ◌∙◌, subst, arith}
+use Rattle.std.proofs.Common.{◌≡◌, ℕ, ◌^◌, ◌<◌, Bool, true, false, cond, eqb, List, [], ◌∷◌, ◌++◌, Some, Option, sym, refl, ap, ◌∙◌, subst}
 use Rattle.std.specs.List.{flat_map, AllByRecursion as All}
 use Rattle.std.proofs.lemmas.List.{append_assoc}
 use Rattle.std.proofs.lemmas.Bool.{eqb-true}
 use Rattle.turns.specs.declared.turn.Turn.{Turn}
 use Rattle.turns.specs.declared.turn.Turn.TheVariants.{Work, Send, Deliver, Checkpoint, Rollback, Stop, Restart, SetWilling}
-use Rattle.lines.specs.Lines.{and_then, byte, field, one_field, two_fields, three_fields, made, turn_by, turn_line}
+use Rattle.lines.specs.Lines.{byte, field, one_field, two_fields, three_fields, made, turn_by, turn_line}
 use Rattle.lines.specs.Spelling.{spell_field, spell_fields, letter_of, fields_of, spell_turn, FitTurn}
 use Rattle.lines.proofs.Spelling.{none_not_some, then_was, then_some, byte_spelled, byte_was, field_spelled, field_was}
 

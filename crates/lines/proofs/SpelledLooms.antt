@@ -1,8 +1,8 @@
 -- First lines that are spelled are read back, and what is read was spelled so. Assumes nothing.
-use Rattle.std.proofs.Common.{◌≡◌, ℕ, ◌+◌, ◌^◌, ◌<◌, ◌≤◌, Bool, true, false, cond, ◌&&◌, eqb, leb, List, [], ◌∷◌, ◌++◌, Some, None, codes, Option, sym, refl, ap, ◌∙◌, subst, arith}
+use Rattle.std.proofs.Common.{◌≡◌, ℕ, ◌^◌, ◌<◌, ◌&&◌, eqb, leb, List, [], ◌∷◌, ◌++◌, Some, codes, sym, refl, ap, ◌∙◌, subst, arith}
 use Rattle.std.proofs.lemmas.List.{append_assoc}
 use Rattle.std.proofs.lemmas.Bool.{eqb-true, leb-true, le-leb, and_from, and_parts, cond-true}
-use Rattle.lines.specs.Lines.{and_then, byte, field, text, first, letter_field, store_of, part_of, loom_of, loom_line}
+use Rattle.lines.specs.Lines.{byte, field, text, first, letter_field, store_of, part_of, loom_of, loom_line}
 use Rattle.lines.specs.Spelling.{spell_field, store_letter, places_of, part_letter, spell_loom, FitStore, FitLoom}
 use Rattle.lines.specs.declared.loom.StoreKind.{StoreKind}
 use Rattle.lines.specs.declared.loom.StoreKind.TheVariants.{Slots, Journal}

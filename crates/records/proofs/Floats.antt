@@ -1,6 +1,6 @@
 -- Two float literals of the code, as numbers. Assumes nothing.
 use Rattle.std.proofs.Common.{◌≡◌, refl}
-use lib.Ieee.{Float, binary32, of_bits, of_fields, odd, climb, span, size}
+use lib.Ieee.{binary32, of_bits, of_fields, odd}
 use Rattle.records.specs.Feed.{quarter, half}
 
 pub quarter_bits : of_bits binary32 1048576000 ≡ quarter

@@ -3,7 +3,7 @@ use Rattle.std.proofs.Common.{◌≡◌, ℕ, zero, suc, ◌+◌, ◌-◌, ◌<�
 use Rattle.std.specs.List.{flat_map, AllByRecursion as All}
 use Rattle.std.proofs.lemmas.Bool.{cond-true, cond-false, le-leb, lt-leb}
 use Rattle.turns.specs.declared.turn.Turn.{Turn}
-use Rattle.lines.specs.Lines.{turn_line, loom_line}
+use Rattle.lines.specs.Lines.{loom_line}
 use Rattle.runfile.specs.Files.{Place, after_loom, first_line, after_turn, next_turn, before, go_on, turns_from, with_loom, after_first, file_of}
 use Rattle.lines.specs.Spelling.{spell_turn, spell_loom, spell_file, FitLoom, FitTurn, SpelledBy}
 use Rattle.runfile.specs.Readers.{Read, ReadsBack, Spelled}

@@ -1,16 +1,14 @@
 -- Reading one turn after the other gives all turns. Assumes nothing.
-use Rattle.std.proofs.Common.{◌≡◌, ℕ, zero, suc, ◌+◌, ◌-◌, ◌<◌, ◌≤◌, Bool, true, false, cond, leb, List, [], ◌∷◌, ◌++◌, Some, None, Ok, Err, Option, Result, sym, refl, ap, ◌∙◌, subst, arith}
+use Rattle.std.proofs.Common.{◌≡◌, ℕ, zero, suc, ◌+◌, ◌-◌, ◌<◌, ◌≤◌, List, [], ◌∷◌, ◌++◌, Some, None, Ok, Err, Option, Result, sym, refl, ap, ◌∙◌, subst, arith}
 use Rattle.std.proofs.lemmas.List.{append-nil, append_assoc}
-use Rattle.std.proofs.lemmas.Bool.{leb-false}
 use Rattle.turns.specs.declared.turn.Turn.{Turn}
-use Rattle.lines.specs.Lines.{turn_line, loom_line}
-use Rattle.runfile.specs.Files.{Place, after_loom, first_line, next_turn, turn_at, after_turn, moved, before, go_on, turns_from}
+use Rattle.lines.specs.Lines.{loom_line}
+use Rattle.runfile.specs.Files.{Place, after_loom, first_line, next_turn, moved, before, go_on, turns_from}
 use Rattle.runfile.specs.Readers.{numbered}
 use Rattle.runfile.proofs.Next.{Next, err_not_ok, none_not_turn, next_was}
 use Rattle.lines.specs.declared.loom.Loom.{Loom}
 use Rattle.runfile.specs.declared.reader.TurnLine.{TurnLine}
 use Rattle.runfile.specs.declared.refusal.Refusal.{Refusal}
-use Rattle.runfile.specs.declared.refusal.Refusal.TheVariants.{TooManyTurns}
 
 -- all turns, by the next one
 turns_by : (m : ℕ) (at : Place) → (more : Place → Result (List Turn) Refusal) × (turns_from m at ≡ go_on (next_turn at) more)

@@ -1,5 +1,5 @@
 -- What a run file means: its loom and its turns, or why it is refused.
-use Rattle.std.specs.Prelude.{ℕ, zero, suc, ◌+◌, Bool, true, false, cond, List, [], ◌∷◌, length, Some, None, Ok, Err, Option, Result, nat_le}
+use Rattle.std.specs.Prelude.{ℕ, zero, suc, ◌+◌, cond, List, [], ◌∷◌, length, Some, None, Ok, Err, Option, Result, nat_le}
 use Rattle.turns.specs.declared.turn.Turn.{Turn}
 use Rattle.lines.specs.Lines.{turn_line, loom_line}
 use Rattle.lines.specs.declared.loom.Loom.{Loom}

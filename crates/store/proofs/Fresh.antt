@@ -1,7 +1,6 @@
 -- The places of a new store. Assumes nothing.
-use Rattle.std.proofs.Common.{◌≡◌, ℕ, zero, suc, ◌+◌, ◌*◌, ◌<◌, ◌≤◌, true, false, List, [], ◌∷◌, ◌++◌, length, get_or, drop, set, replicate, None, sym, refl, ap, ◌∙◌, append_assoc, arith}
+use Rattle.std.proofs.Common.{◌≡◌, ℕ, zero, suc, ◌+◌, ◌*◌, ◌<◌, true, false, List, [], ◌∷◌, ◌++◌, length, get_or, drop, set, replicate, None, sym, refl, ap, ◌∙◌, append_assoc, arith}
 use Rattle.std.proofs.lemmas.List.{set_at, drop_more, length_push}
-use Rattle.store.specs.Meaning.{Kept}
 use Rattle.store.specs.Slots.{filled, fresh_slots, pairs}
 use Rattle.store.specs.declared.slots.Slot.{Slot}
 

@@ -1,12 +1,12 @@
 -- What the calls of a slot store answer and leave, by the places that they read and write. Assumes nothing.
-use Rattle.std.proofs.Common.{◌≡◌, ℕ, zero, suc, ◌+◌, ◌-◌, ◌*◌, ◌/◌, ◌<◌, ◌≤◌, Bool, true, false, cond, List, [], ◌∷◌, length, set, is_some, is_ok, Some, None, Ok, Err, Option, Result, sym, refl, ap, ◌∙◌, arith}
+use Rattle.std.proofs.Common.{◌≡◌, ℕ, ◌+◌, ◌-◌, ◌*◌, ◌/◌, ◌<◌, ◌≤◌, Bool, true, false, cond, List, length, set, is_some, is_ok, Some, None, Ok, Err, Option, Result, sym, refl, ap, ◌∙◌}
 use Rattle.std.specs.List.{slice_get}
 use Rattle.store.specs.Meaning.{Answer, Kept, Meaning, updated, standing_at, standing_of, pending_at, pending_of, put_at, put_under}
 use Rattle.store.specs.Meaning.{put_answer, put_after, putting, keep_at, keep_under, keep_answer, keep_after, keeping, or_else, discarding, discard_after}
-use Rattle.store.specs.Slots.{pair, pairs, slot_meaning, filled}
+use Rattle.store.specs.Slots.{pairs, slot_meaning, filled}
 use Rattle.store.specs.declared.slots.Slot.{Slot}
 use Rattle.store.specs.declared.refusal.StoreRefusal.{StoreRefusal}
-use Rattle.store.specs.declared.refusal.StoreRefusal.TheVariants.{BadBoard, WrongPending, NoSpare}
+use Rattle.store.specs.declared.refusal.StoreRefusal.TheVariants.{BadBoard, WrongPending}
 use Rattle.store.proofs.Pairs.{pending_is, standing_is, no_board, pending_at_lem, standing_at_lem, set_pending, set_standing, updated_twice, updated_same}
 
 module _ {R : Type 0} (xs : List (Slot R)) (p : ℕ) where

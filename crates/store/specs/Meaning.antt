@@ -1,5 +1,5 @@
 -- What a store means, and what each call does to that.
-use Rattle.std.specs.Prelude.{◌≡◌, ℕ, zero, suc, ◌-◌, Bool, true, false, cond, List, [], ◌∷◌, replicate, is_some, is_ok, Some, None, Ok, Err, Option, Result, ◌==◌}
+use Rattle.std.specs.Prelude.{ℕ, zero, suc, ◌-◌, Bool, cond, List, [], ◌∷◌, replicate, is_some, is_ok, Some, None, Ok, Err, Option, Result, ◌==◌}
 use Rattle.std.specs.List.{slice_get}
 use Rattle.store.specs.declared.refusal.MakeRefusal.{MakeRefusal}
 use Rattle.store.specs.declared.refusal.MakeRefusal.TheVariants.{BadCount, BadRoom}

@@ -1,5 +1,4 @@
-use Rattle.std.proofs.Common.{◌≡◌, Bool, true, take, set, Ok, sym, ap, ◌∙◌}
-use Rattle.store.specs.Meaning.{pending_of}
+use Rattle.std.proofs.Common.{Bool, take, set, Ok, sym, ap, ◌∙◌}
 use Rattle.journal.specs.Journals.{journal_meaning, entry_of}
 use Rattle.journal.proofs.Answered.{keep_good}
 use Rattle.journal.proofs.Means.{place_left}

@@ -1,4 +1,4 @@
-use Rattle.std.proofs.Common.{take, Ok, sym, ap, ◌∙◌}
+use Rattle.std.proofs.Common.{take, ap, ◌∙◌}
 use Rattle.journal.specs.Logs.{kept_of}
 use Rattle.store.specs.Meaning.{Kept}
 use Rattle.journal.proofs.Back.{stands_latest}

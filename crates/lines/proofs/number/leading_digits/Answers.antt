@@ -1,4 +1,4 @@
-use Rattle.std.proofs.Common.{◌≡◌, ℕ, ◌+◌, true, false, sym, ap, ◌∙◌, subst, arith, rules}
+use Rattle.std.proofs.Common.{ℕ, ◌+◌, sym, subst, arith}
 use Rattle.lines.proofs.Numbers.{Sofar, sofar_more, sofar_over, ends_at_other, ends_at_last}
 use Rattle.lines.proofs.number.leading_digits.Goals as goal
 

@@ -1,5 +1,5 @@
 use Rattle.std.proofs.Common.{refl}
-use lib.Ieee.{add, mul, sum, round, units, odd, climb, span, size, of_int, of_bits, of_fields, to_bits, neg}
+use lib.Ieee.{add, mul, sum, round, units, odd, climb, span, size, of_int, of_bits, of_fields, to_bits}
 use lib.Count.{count_trailing_zeros}
 use Rattle.records.proofs.vectors.vectors_stand.Goals as goal
 

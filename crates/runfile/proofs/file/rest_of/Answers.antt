@@ -1,10 +1,8 @@
-use Rattle.std.proofs.Common.{◌≡◌, List, [], Some, None, Ok, Err, vec_items, Option, Result, sym, ap, ◌∙◌, subst}
+use Rattle.std.proofs.Common.{◌≡◌, List, Some, Ok, vec_items, sym, ap, ◌∙◌, subst}
 use Rattle.std.proofs.lemmas.Result.{err_from_is_err_and}
 use Rattle.turns.specs.declared.turn.Turn.{Turn}
-use Rattle.runfile.specs.Files.{Place, next_turn}
+use Rattle.runfile.specs.Files.{next_turn}
 use Rattle.runfile.specs.Readers.{place, numbered}
-use Rattle.runfile.specs.declared.reader.TurnLine.{TurnLine}
-use Rattle.runfile.specs.declared.refusal.Refusal.{Refusal}
 use Rattle.runfile.proofs.Turns.{Halfway, halfway_none, halfway_end, halfway_err, from_none, from_err, step}
 use Rattle.runfile.proofs.file.rest_of.Goals as goal
 

@@ -1,7 +1,5 @@
-use Rattle.std.proofs.Common.{◌≡◌, ◌+◌, ◌*◌, true, false, List, set, sym, ap, ◌∙◌}
-use Rattle.std.specs.List.{slice_get}
-use Rattle.store.specs.Slots.{slot_meaning, filled, state_or}
-use Rattle.store.specs.declared.slots.Slot.{Slot}
+use Rattle.std.proofs.Common.{◌+◌, ◌*◌, false, set, ap, ◌∙◌}
+use Rattle.store.specs.Slots.{slot_meaning, filled}
 use Rattle.store.proofs.Slotted.{keep_none, keep_taken, keep_free, discard_after_lem, discard_refused, by_answer}
 use Rattle.store.proofs.slots.discard_in.Goals as goal
 

@@ -1,7 +1,6 @@
-use Rattle.std.proofs.Common.{◌≡◌, ◌+◌, ◌*◌, true, false, List, set, sym, ap, ◌∙◌}
+use Rattle.std.proofs.Common.{◌+◌, ◌*◌, true, false, set, sym, ap, ◌∙◌}
 use Rattle.std.specs.List.{slice_get}
 use Rattle.store.specs.Slots.{slot_meaning, filled, state_or}
-use Rattle.store.specs.declared.slots.Slot.{Slot}
 use Rattle.store.proofs.Slotted.{keep_none, keep_taken, keep_free, keep_after_lem, keep_refused, by_answer}
 use Rattle.store.proofs.slots.keep_in.Goals as goal
 

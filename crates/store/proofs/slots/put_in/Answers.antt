@@ -1,6 +1,5 @@
-use Rattle.std.proofs.Common.{◌+◌, ◌*◌, true, false, set, sym, ap, ◌∙◌}
-use Rattle.std.specs.List.{slice_get}
-use Rattle.store.specs.Slots.{slot_meaning, filled, state_or}
+use Rattle.std.proofs.Common.{ap, ◌∙◌}
+use Rattle.store.specs.Slots.{slot_meaning}
 use Rattle.store.proofs.Slotted.{put_none, put_taken, put_free, put-after, put_refused, by_answer}
 use Rattle.store.proofs.slots.put_in.Goals as goal
 

@@ -1,4 +1,4 @@
-use Rattle.std.proofs.Common.{◌+◌, List, length, take, sym, refl, ap, ◌∙◌, subst}
+use Rattle.std.proofs.Common.{◌+◌, List, take, sym, refl, ap, ◌∙◌, subst}
 use Rattle.journal.specs.Journals.{roomy}
 use Rattle.journal.specs.Pointers.{Traced}
 use Rattle.journal.specs.declared.entry.Entry.{Entry}

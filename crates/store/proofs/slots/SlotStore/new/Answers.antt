@@ -1,8 +1,7 @@
-use Rattle.std.proofs.Common.{◌≡◌, ◌*◌, List, ◌++◌, length, take, drop, sym, ap, ◌∙◌}
+use Rattle.std.proofs.Common.{◌≡◌, ◌*◌, take, drop, ap, ◌∙◌}
 use Rattle.std.proofs.lemmas.List.{take_at}
 use Rattle.std.proofs.lemmas.Result.{IfOk-weaker}
 use Rattle.store.specs.Slots.{slot_meaning, slots_refused, fresh_slots}
-use Rattle.store.specs.declared.slots.Slot.{Slot}
 use Rattle.store.proofs.Fresh.{length_fresh, pairs_fresh}
 use Rattle.store.proofs.slots.SlotStore.new.Goals as goal
 
