@@ -8,7 +8,7 @@ use Rattle.records.specs.Stories.{Story, Told}
 use Rattle.records.specs.declared.event.Event.{Event}
 use Rattle.records.specs.declared.event.Event.TheVariants.{Heard, Sent, Worked}
 use Rattle.protocol.specs.Effects.{Answers, Carries, Counts, Decides, Discards, Effect, Flags, Hears, Joins, Replies}
-use Rattle.protocol.specs.Effects.{Sends, Starts, State, Works, drawn}
+use Rattle.protocol.specs.Effects.{Sends, Starts, State, Works}
 use Rattle.protocol.specs.Histories.{Asking, History, Settled, Stage, agreed_kept, carried_due, carried_own, member}
 use Rattle.protocol.specs.Histories.{tell, tell_own}
 use Rattle.protocol.specs.Rows.{Back, Round, Save}

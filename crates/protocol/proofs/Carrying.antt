@@ -20,7 +20,7 @@ use Rattle.protocol.proofs.Backwards.{retell}
 use Rattle.protocol.proofs.Stored.{carried_stored, keep_taken, size_carried, stored_carried, stored_standing}
 use Rattle.protocol.proofs.Stored.{stored_at}
 use Rattle.protocol.proofs.Segments.{Marked, marked_back, marked_drop, marked_keep}
-use Rattle.protocol.proofs.Wires.{Flushed, all_posts, asks, at, decisions, flow_append, flow_lower, flushed_append}
+use Rattle.protocol.proofs.Wires.{Flushed, all_posts, asks, decisions, flow_append, flow_lower, flushed_append}
 use Rattle.protocol.proofs.Wires.{replies, tally-append, tally-posts, word_label, words}
 use Rattle.protocol.proofs.Invariant.{Board, Carried, FitsNote, FitsPhase, Inv, Reasoned, Treed, bit, child, keeps}
 use Rattle.protocol.proofs.Invariant.{roles_of}

@@ -13,7 +13,6 @@ use Rattle.protocol.specs.Rows.{Answered, Back, Free, Gathering, Phase, Round, R
 use Rattle.protocol.proofs.Labels.{In, Rising, in_right, in_split, made, rising_right}
 use Rattle.protocol.proofs.Stored.{stored_at}
 use Rattle.protocol.proofs.Segments.{Unsent, saving}
-use Rattle.protocol.proofs.Wires.{at}
 use Rattle.protocol.proofs.Invariant.{Board, FitsPhase, Inv, keeps, owes}
 
 pub board_settled : {R : Type 0} (rules : Rules R) (r : Round) (v : Bool) (p : ℕ) (in' : ℕ → Bool) (ck kp : ℕ → Story)

@@ -4,7 +4,7 @@ use Rattle.std.specs.List.{AllByRecursion as All}
 use Rattle.records.specs.Rules.{Rules}
 use Rattle.records.specs.Stories.{Story}
 use Rattle.store.specs.Meaning.{Kept}
-use Rattle.protocol.specs.Effects.{State, drawn}
+use Rattle.protocol.specs.Effects.{State}
 use Rattle.protocol.specs.Histories.{Asking, History, Settled, Stage, member, present}
 use Rattle.protocol.specs.Rows.{Answered, Back, Free, Gathering, Marks, Phase, Role, Round, Row, Save, gathering}
 use Rattle.protocol.specs.Rows.{held}

@@ -12,7 +12,7 @@ use Rattle.protocol.specs.Wire.{tally}
 use Rattle.protocol.proofs.Labels.{In, LabelOrphan, NoLabelOrphan, Rising, first_in, first_le_in, heard_from}
 use Rattle.protocol.proofs.Labels.{in_le_last, in_left, in_right, in_split, last_in, rising_cross, rising_left}
 use Rattle.protocol.proofs.Labels.{rising_right, sent_to}
-use Rattle.protocol.proofs.Wires.{at, words}
+use Rattle.protocol.proofs.Wires.{words}
 use Rattle.protocol.proofs.Invariant.{FitsPhase, Inv, Spared, Wanted, asked, marks_of}
 use Rattle.protocol.proofs.Decided.{all_saving, base_own, kept_base, no_mid, none_saving, not_saving, own_splits}
 use Rattle.protocol.proofs.Decided.{present_own, rise_parts}

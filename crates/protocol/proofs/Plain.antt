@@ -17,7 +17,7 @@ use Rattle.protocol.specs.Wire.{Ask, Decision, Message, Reply, Word, post, tally
 use Rattle.protocol.proofs.Labels.{In, heard_from, last, sent_to}
 use Rattle.protocol.proofs.Backwards.{add_own, retell}
 use Rattle.protocol.proofs.Segments.{marked_work}
-use Rattle.protocol.proofs.Wires.{Flow, at, replies, tally-append, word_label}
+use Rattle.protocol.proofs.Wires.{Flow, replies, tally-append, word_label}
 use Rattle.protocol.proofs.Invariant.{BoardAt, Carried, Chain, FitsNote, Frame, Inv, Reasoned, Spared, Tree, Treed}
 use Rattle.protocol.proofs.Invariant.{Wanted, asked, labels}
 

@@ -32,11 +32,10 @@ use Rattle.protocol.proofs.Backwards.{backwards, backwards_tell, made-reverse, r
 use Rattle.protocol.proofs.Backwards.{told-reverse}
 use Rattle.protocol.proofs.Stored.{stored_standing, stored_at, stored_in}
 use Rattle.protocol.proofs.Segments.{Marked}
-use Rattle.protocol.proofs.Wires.{all_taken, at, decisions, replies, taken, taken_goes, words}
+use Rattle.protocol.proofs.Wires.{all_taken, decisions, replies, taken, taken_goes}
 use Rattle.protocol.proofs.Invariant.{Board, Chain, FitsNote, InLoom, Inv, bit, keeps, labels, marks_of, roles_of}
 use Rattle.protocol.proofs.Plain.{eqb_same, keeps_flag, keeps_work}
 use Rattle.protocol.proofs.Words.{free_awaits, keeps_hear, keeps_send}
-use Rattle.protocol.proofs.Agreement.{quiet}
 use Rattle.protocol.proofs.Deciding.{frame_at, keeps_decide, keeps_minimal}
 use Rattle.protocol.proofs.Replying.{keeps_count, keeps_reply, keeps_toss}
 use Rattle.protocol.proofs.Answering.{keeps_answer}

@@ -1,5 +1,5 @@
 -- Making a console: its refusals, and its state when new.
-use Rattle.std.specs.Prelude.{ℕ, Bool, true, false, cond, not, ◌||◌, List, [], ◌∷◌, length, is_some, Some, None, Option, ◌==◌, nat_lt}
+use Rattle.std.specs.Prelude.{ℕ, Bool, false, cond, not, ◌||◌, List, [], ◌∷◌, length, is_some, Some, None, Option, ◌==◌, nat_lt}
 use Rattle.records.specs.Rules.{Rules}
 use Rattle.store.specs.Meaning.{Kept, Meaning}
 use Rattle.protocol.specs.Rows.{new_row}

@@ -2,7 +2,7 @@
 use Rattle.std.specs.Prelude.{ℕ, zero, suc, Bool, true, false, cond, not, ◌&&◌, ◌||◌, List, [], ◌∷◌, Some, None, Option, ◌==◌, nat_le, nat_lt}
 use Rattle.records.specs.Rules.{Rules}
 use Rattle.store.specs.Meaning.{Answer as StoreAnswer}
-use Rattle.protocol.specs.Rows.{Round, Save, Back, Phase, Free, Gathering, Answered, Row, held}
+use Rattle.protocol.specs.Rows.{Round, Save, Back, Phase, Free, Gathering, Answered, held}
 use Rattle.protocol.specs.Marks.{need}
 use Rattle.protocol.specs.Rounds.{able, says_yes, has_answered}
 use Rattle.protocol.specs.Wire.{Note, Word, Ask, Reply, Decision, Message, post, earliest, tally, is_word, is_control}

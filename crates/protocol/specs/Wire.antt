@@ -1,5 +1,5 @@
 -- The wire: one list of messages, to which new ones join at the end.
-use Rattle.std.specs.Prelude.{ℕ, zero, suc, ◌+◌, Bool, true, false, cond, List, [], ◌∷◌, ◌++◌, Some, None, Option, ◌==◌}
+use Rattle.std.specs.Prelude.{ℕ, zero, suc, ◌+◌, Bool, false, cond, List, [], ◌∷◌, ◌++◌, Some, None, Option, ◌==◌}
 pub use Rattle.turns.specs.declared.message.Note.{Note}
 pub use Rattle.turns.specs.declared.message.Note.TheVariants.{Word, Ask, Reply, Decision}
 
