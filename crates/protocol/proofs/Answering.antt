@@ -4,7 +4,7 @@ use mathlib.Core.Path.{fun_ext}
 use Rattle.std.proofs.ByRecursion.{All-append}
 use Rattle.std.proofs.lemmas.Bool.{cases_eq, cases_lt, eqb-false, ne_eqb, true≢false}
 use Rattle.std.proofs.lemmas.Bool.Decides.{eqb_tells}
-use Rattle.std.specs.List.{AllByRecursion as All}
+use Rattle.std.specs.List.{AllByRecursion}
 use Rattle.records.specs.Rules.{Rules}
 use Rattle.protocol.specs.Effects.{Answers, State, act}
 use Rattle.protocol.specs.Histories.{Asking, History, Settled, Stage}
@@ -190,7 +190,7 @@ module _ {R : Type 0} (n : ℕ) (rules : Rules R) (wear : ℕ) (s : State R) (τ
         carried = All-append _ s.wire _ inv.carried (tt, tt);
         flushed = λ a b. flushed_append a b s.wire _ (inr refl) (inl refl, tt) (inv.flushed a b);
         loom = All-append _ s.wire _ inv.loom ((ans_near p ans_held, ans_near k hk, (λ e. other (sym e))), tt);
-        notes = subst (λ f. All (FitsNote τ.stage (labels τ.stage f)) (s.wire ++ m ∷ [])) (sym sm)
+        notes = subst (λ f. AllByRecursion (FitsNote τ.stage (labels τ.stage f)) (s.wire ++ m ∷ [])) (sym sm)
             (All-append _ s.wire _ inv.notes (tt, tt));
         kept_free = inv.kept_free;
         present_free = inv.present_free;

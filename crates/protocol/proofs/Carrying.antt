@@ -4,7 +4,7 @@ use mathlib.Core.Path.{fun_ext}
 use Rattle.std.proofs.ByRecursion.{All-append, All-weaker}
 use Rattle.std.proofs.lemmas.Bool.{cases_Bool, cases_lt, eqb-false, false≢true, ne_eqb, true≢false}
 use Rattle.std.proofs.lemmas.Bool.Decides.{eqb_tells}
-use Rattle.std.specs.List.{AllByRecursion as All}
+use Rattle.std.specs.List.{AllByRecursion}
 use Rattle.records.specs.Rules.{Rules}
 use Rattle.records.specs.Stories.{Story}
 use Rattle.store.specs.Meaning.{keep_answer}
@@ -255,7 +255,7 @@ module _ {R : Type 0} (n : ℕ) (rules : Rules R) (wear : ℕ) (s : State R) (τ
           (flow_append (word_label a b) _ _ s.wire _ (all_posts _ n _ _ (λ i _ _. refl))
           (flow_lower (word_label a b) _ _ _ s.wire (own_falls r v here a b) (inv.flow a b)));
       carried = All-append _ s.wire _
-          (subst (λ f. All (Carried f) s.wire) (fun_ext (present_same r v ph here)) inv.carried)
+          (subst (λ f. AllByRecursion (Carried f) s.wire) (fun_ext (present_same r v ph here)) inv.carried)
           (all_posts _ n _ _ (λ i _ _. tt));
       flushed = λ a b. (let z = tally_none (words a b) n (s.rows p).role.cohort (λ i. post p i (Decision r v))
           (λ i. refl) in flushed_append a b s.wire _ (inr z) (flushed_none a b _ z) (inv.flushed a b));

@@ -4,7 +4,7 @@ use mathlib.Core.Path.{fun_ext}
 use Rattle.std.proofs.ByRecursion.{All-weaker}
 use Rattle.std.proofs.lemmas.Bool.{cases_Bool, cases_lt, eqb-true, or_cases, or_right, true≢false}
 use Rattle.std.proofs.lemmas.Bool.Decides.{when_true}
-use Rattle.std.specs.List.{AllByRecursion as All}
+use Rattle.std.specs.List.{AllByRecursion}
 use Rattle.records.specs.Rules.{Rules}
 use Rattle.records.specs.Stories.{Story}
 use Rattle.protocol.specs.Effects.{Decides, State, act}
@@ -25,12 +25,12 @@ use Rattle.protocol.proofs.Decided.{all_saving, board_answered, board_at, board_
 use Rattle.protocol.proofs.Orphans.{agreed_back, agreed_save, back_free, back_orphan, no_words, save_free}
 use Rattle.protocol.proofs.Orphans.{save_orphan}
 
-pub all_both : (P Q : Message → Type 0) (w : List Message) → All P w → All Q w → All (λ m. P m × Q m) w
+pub all_both : (P Q : Message → Type 0) (w : List Message) → AllByRecursion P w → AllByRecursion Q w → AllByRecursion (λ m. P m × Q m) w
 all_both P Q [] a b = tt
 all_both P Q (m ∷ w) a b = ((a.0, b.0), all_both P Q w a.1 b.1)
 
 -- each message counts at most what the whole wire does
-pub all_le : (h : ℕ → ℕ → Message → ℕ) (w : List Message) → All (λ m. (a b : ℕ) → h a b m ≤ tally (h a b) w) w
+pub all_le : (h : ℕ → ℕ → Message → ℕ) (w : List Message) → AllByRecursion (λ m. (a b : ℕ) → h a b m ≤ tally (h a b) w) w
 all_le h [] = tt
 all_le h (m ∷ w) = ((λ a b. omega arith), All-weaker _ _ (λ x k a b. let z = k a b in omega arith) w (all_le h w))
 
@@ -104,12 +104,12 @@ module _ {R : Type 0} (n : ℕ) (rules : Rules R) (s : State R) (τ : History) (
   carried_back st fit cov (post a b (Decision k y)) h = tt
 
   pub carried_after : (r : Round) (v : Bool) → τ.stage ≡ Asking r p → Fit r → (v ≡ true → Cov r) →
-      All (Carried (λ i. cond (agreed_due r v in' τ.due i) (agreed_kept r v in' τ.drawn τ.kept i) (τ.own i)))
+      AllByRecursion (Carried (λ i. cond (agreed_due r v in' τ.due i) (agreed_kept r v in' τ.drawn τ.kept i) (τ.own i)))
       s.wire
   carried_after Save v st fit cov =
-      subst (λ f. All (Carried f) s.wire) (fun_ext (present_stays st v)) inv.carried
+      subst (λ f. AllByRecursion (Carried f) s.wire) (fun_ext (present_stays st v)) inv.carried
   carried_after Back true st fit cov =
-      subst (λ f. All (Carried f) s.wire) (fun_ext (present_as_agreed st fit (cov refl)))
+      subst (λ f. AllByRecursion (Carried f) s.wire) (fun_ext (present_as_agreed st fit (cov refl)))
       (All-weaker _ _ (carried_back st fit (cov refl)) s.wire
       (all_both _ _ s.wire (all_both _ _ s.wire inv.carried inv.loom) (all_le words s.wire)))
   carried_after Back false st fit cov = inv.carried
@@ -218,7 +218,7 @@ module _ {R : Type 0} (n : ℕ) (rules : Rules R) (wear : ℕ) (s : State R) (τ
         loom = inv.loom;
         notes = All-weaker _ _ (settled_note r v p (labels (Asking r p) (marks_of s)) (λ a b. 0) s.wire
             (λ a b. (none_left frame_at idle_all a b).0)) s.wire
-            (all_both _ _ s.wire (subst (λ g. All (FitsNote g (labels g (marks_of s))) s.wire) stage_is
+            (all_both _ _ s.wire (subst (λ g. AllByRecursion (FitsNote g (labels g (marks_of s))) s.wire) stage_is
             inv.notes) (all_le asks s.wire));
         kept_free = kept-after n rules s τ inv p in' members_are r v stage_is frame_at.fits covers;
         present_free = present-after n rules s τ inv p in' members_are r v stage_is frame_at.fits covers;

@@ -3,7 +3,7 @@ use Rattle.std.proofs.Common.{◌≡◌, ℕ, ◌+◌, ◌<◌, ◌≤◌, Bool,
 use Rattle.std.proofs.ByRecursion.{All-append, All-weaker}
 use Rattle.std.proofs.lemmas.Bool.{and_parts, and_right, cases_Bool, cases_lt, eq-eqb, eqb-false, eqb-true, false≢true, leb-true, lt-ltb, ltb-true, ne_eqb, or_cases, or_left, or_parts, or_right, true≢false}
 use Rattle.std.proofs.lemmas.Bool.Decides.{eqb_tells}
-use Rattle.std.specs.List.{AllByRecursion as All}
+use Rattle.std.specs.List.{AllByRecursion}
 use Rattle.records.specs.Rules.{Rules}
 use Rattle.records.specs.Stories.{Story}
 use Rattle.store.specs.Meaning.{Kept, put_answer}
@@ -100,7 +100,7 @@ sure_put n rules s τ inv p l f h =
     put_taken rules s.store p (in_store n rules s τ inv p l) d.0 h
 
 no_decisions : (r : Round) (z : ℕ) (lab : ℕ → ℕ → ℕ) (a b : ℕ) (w : List Message) →
-    All (FitsNote (Asking r z) lab) w → tally (decisions a b) w ≡ 0
+    AllByRecursion (FitsNote (Asking r z) lab) w → tally (decisions a b) w ≡ 0
 no_decisions r z lab a b [] h = refl
 no_decisions r z lab a b (post i j (Word l x) ∷ w) h = let q = no_decisions r z lab a b w h.1 in omega arith
 no_decisions r z lab a b (post i j (Ask k l) ∷ w) h = let q = no_decisions r z lab a b w h.1 in omega arith
@@ -203,8 +203,8 @@ module _ {R : Type 0} (n : ℕ) (rules : Rules R) (wear : ℕ) (s : State R) (τ
   d_reasons : Reasons n r z (roles_of s) (marks_of s) s.wire
   d_reasons = subst (λ g. Reasoned n g (roles_of s) (marks_of s) s.wire) d_stage.1 inv.reasons
 
-  d_notes : All (FitsNote (Asking r z) (λ i b. label_of r (s.rows i).marks b)) s.wire
-  d_notes = subst (λ g. All (FitsNote g (labels g (marks_of s))) s.wire) d_stage.1 inv.notes
+  d_notes : AllByRecursion (FitsNote (Asking r z) (λ i b. label_of r (s.rows i).marks b)) s.wire
+  d_notes = subst (λ g. AllByRecursion (FitsNote g (labels g (marks_of s))) s.wire) d_stage.1 inv.notes
 
   d_board : (i : ℕ) → Board rules (Asking r z) (s.rows i) (s.table i) (stored_at rules s i) (τ.own i) (τ.kept i)
       (τ.drawn i) (τ.due i) (inv.base i) (inv.mid i) (inv.since i)
@@ -415,7 +415,7 @@ module _ {R : Type 0} (n : ℕ) (rules : Rules R) (wear : ℕ) (s : State R) (τ
     ];
   }
 
-  d_noted : All (FitsNote (Asking r z) (λ i b. label_of r (marks_of s' i) b)) (v ++ out)
+  d_noted : AllByRecursion (FitsNote (Asking r z) (λ i b. label_of r (marks_of s' i) b)) (v ++ out)
   d_noted = All-append _ v out
       (All-weaker _ _ (note_kept r z p (λ i b. label_of r (s.rows i).marks b) _ v
       (λ b. let t = tally_taken (asks p b) d_taken in let q = (p_none b).0 in omega arith)
@@ -463,7 +463,7 @@ module _ {R : Type 0} (n : ℕ) (rules : Rules R) (wear : ℕ) (s : State R) (τ
     loom = All-append _ v _ (all_rest _ d_taken inv.loom)
         (all_posts _ n _ _ (λ b k c.
         (d_loom.1, k, λ e. true≢false (sym c ∙ subst (λ u. in_cohort n r p mp u ≡ false) e (asks_self n r p mp)))));
-    notes = subst (λ g. All (FitsNote g (labels g (marks_of s'))) (v ++ out)) (sym d_stage.1) d_noted;
+    notes = subst (λ g. AllByRecursion (FitsNote g (labels g (marks_of s'))) (v ++ out)) (sym d_stage.1) d_noted;
     kept_free = inv.kept_free;
     present_free = inv.present_free;
     frame = record {

@@ -1,6 +1,6 @@
 -- What holds after every deed.
 use Rattle.std.proofs.Common.{◌≡◌, ℕ, ◌+◌, ◌<◌, ◌≤◌, Bool, true, false, cond, not, ◌&&◌, ◌||◌, eqb, ltb, ◌⊎◌, List, [], ◌∷◌, ◌++◌, length, Some, None, MatchBool}
-use Rattle.std.specs.List.{AllByRecursion as All}
+use Rattle.std.specs.List.{AllByRecursion}
 use Rattle.records.specs.Rules.{Rules}
 use Rattle.records.specs.Stories.{Story}
 use Rattle.store.specs.Meaning.{Kept}
@@ -158,10 +158,10 @@ pub record Inv {R : Type 0} (n : ℕ) (rules : Rules R) (s : State R) (τ : Hist
   pub since : ℕ → Story
   pub boards : (i : ℕ) → BoardAt rules s τ base mid since i
   pub flow : (p q : ℕ) → Flow (word_label p q) (last (heard_from p) (τ.own q)) (s.rows p).count s.wire
-  pub carried : All (Carried (present τ)) s.wire
+  pub carried : AllByRecursion (Carried (present τ)) s.wire
   pub flushed : (a b : ℕ) → Flushed a b s.wire
-  pub loom : All (InLoom n) s.wire
-  pub notes : All (FitsNote τ.stage (labels τ.stage (marks_of s))) s.wire
+  pub loom : AllByRecursion (InLoom n) s.wire
+  pub notes : AllByRecursion (FitsNote τ.stage (labels τ.stage (marks_of s))) s.wire
   pub kept_free : NoLabelOrphan n τ.kept
   pub present_free : NoLabelOrphan n (present τ)
   pub frame : FrameOf n s τ

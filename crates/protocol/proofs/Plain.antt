@@ -4,7 +4,7 @@ use mathlib.Core.Path.{fun_ext}
 use Rattle.std.proofs.ByRecursion.{All-weaker}
 use Rattle.std.proofs.lemmas.Bool.{eq-eqb, eqb-true, false≢true, or_cases, or_left, or_right}
 use Rattle.std.proofs.lemmas.Bool.Decides.{eqb_tells}
-use Rattle.std.specs.List.{AllByRecursion as All}
+use Rattle.std.specs.List.{AllByRecursion}
 use Rattle.records.specs.Rules.{Rules}
 use Rattle.records.specs.Stories.{Story}
 use Rattle.records.specs.declared.event.Event.{Event}
@@ -201,7 +201,7 @@ module _ {R : Type 0} (n : ℕ) (rules : Rules R) (wear : ℕ) (s : State R) (τ
     carried = inv.carried;
     flushed = inv.flushed;
     loom = inv.loom;
-    notes = subst (λ m. All (FitsNote τ.stage (labels τ.stage m)) s.wire)
+    notes = subst (λ m. AllByRecursion (FitsNote τ.stage (labels τ.stage m)) s.wire)
         (sym (fun_ext (same_part (λ r. r.marks) s.rows p (with_flags (s.rows p) u l i) refl))) inv.notes;
     kept_free = inv.kept_free;
     present_free = inv.present_free;

@@ -4,7 +4,7 @@ use mathlib.Core.Path.{fun_ext}
 use Rattle.std.proofs.ByRecursion.{All-append}
 use Rattle.std.proofs.lemmas.Bool.{and_cases, and_parts, and_right, cases_Bool, cases_eq, eq-eqb, false≢true, leb-false, ltb-false, ne_eqb, true≢false}
 use Rattle.std.proofs.lemmas.Bool.Decides.{eqb_tells, nat_tests}
-use Rattle.std.specs.List.{AllByRecursion as All}
+use Rattle.std.specs.List.{AllByRecursion}
 use Rattle.records.specs.Rules.{Rules}
 use Rattle.records.specs.Stories.{Story}
 use Rattle.store.specs.Meaning.{Kept}
@@ -487,7 +487,7 @@ module _ {R : Type 0} (n : ℕ) (rules : Rules R) (wear : ℕ) (s : State R) (τ
           carried = all_rest _ t inv.carried;
           flushed = λ a b. flushed_rest a b t (inv.flushed a b);
           loom = all_rest _ t inv.loom;
-          notes = subst (λ m. All (FitsNote τ.stage (labels τ.stage m)) (without p q s.wire)) (sym sm)
+          notes = subst (λ m. AllByRecursion (FitsNote τ.stage (labels τ.stage m)) (without p q s.wire)) (sym sm)
               (all_rest _ t inv.notes);
           kept_free = inv.kept_free;
           present_free = inv.present_free;

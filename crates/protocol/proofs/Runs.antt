@@ -4,7 +4,7 @@ use mathlib.Core.Path.{fun_ext}
 use Rattle.std.proofs.ByRecursion.{All-append}
 use Rattle.std.proofs.lemmas.Bool.{and_parts, cases_Bool, cases_lt, eqb-false, eqb-true, false≢true, ltb-false, ltb-true, not-false, not-true, or_cases, or_parts, true≢false}
 use Rattle.std.proofs.lemmas.Bool.Decides.{eqb_tells}
-use Rattle.std.specs.List.{AllByRecursion as All}
+use Rattle.std.specs.List.{AllByRecursion}
 use Rattle.records.specs.Rules.{Rules, replayed}
 use Rattle.records.specs.Stories.{NoOrphan, Orphan, Story}
 use Rattle.records.specs.declared.event.Event.TheVariants.{Heard, Sent}
@@ -97,12 +97,12 @@ yes_no_need Save w b h = not-true b (and_parts (w.willing && not w.lost) (not b)
 yes_no_need Back w b h = not-true b (and_parts (w.willing || w.lost) (not b) h).1
 
 all_drawn : {A : Type 0} (r : Round) (m : Meaning A) (p : ℕ) → (r ≡ Save → put_answer m p ≡ Ok tt) →
-    All (λ a. a ≡ Ok tt) (drawn_answer r m p)
+    AllByRecursion (λ a. a ≡ Ok tt) (drawn_answer r m p)
 all_drawn Save m p ok = (ok refl, tt)
 all_drawn Back m p ok = tt
 
 all_carried : {A : Type 0} (r : Round) (m : Meaning A) (p : ℕ) → (r ≡ Save → keep_answer m p ≡ Ok tt) →
-    All (λ a. a ≡ Ok tt) (carried_answer r m p)
+    AllByRecursion (λ a. a ≡ Ok tt) (carried_answer r m p)
 all_carried Save m p ok = (ok refl, tt)
 all_carried Back m p ok = tt
 
@@ -144,13 +144,13 @@ module _ {A : Type 0} (n : ℕ) (rules : Rules A) (wear : ℕ) where
   pub record Fine (before : History) (s : State A) (h : History) (es : List Effect) : Type 0 where
     pub sound : Sound (told_by n rules wear s h es).state (told_by n rules wear s h es).history
     pub in_vain : NobodyInVain n before (told_by n rules wear s h es).history
-    pub takes : All (λ a. a ≡ Ok tt) (effect_answers n rules wear s es)
+    pub takes : AllByRecursion (λ a. a ≡ Ok tt) (effect_answers n rules wear s es)
 
   finished : (before : History) (s : State A) (h : History) → h.agreed ≡ false → Sound s h → Fine before s h []
   finished before s h e i = record { sound = i; in_vain = λ k. absurd (true≢false (sym k ∙ e)); takes = tt }
 
   ahead : (before : History) (s : State A) (h : History) (e : Effect) (es : List Effect) →
-      All (λ a. a ≡ Ok tt) (effect_answer s e) →
+      AllByRecursion (λ a. a ≡ Ok tt) (effect_answer s e) →
       Fine before (act n rules wear s e) (tell s h e) es → Fine before s h (e ∷ es)
   ahead before s h e es a f =
       record { sound = f.sound; in_vain = f.in_vain; takes = All-append _ (effect_answer s e) _ a f.takes }
@@ -286,7 +286,7 @@ module _ {A : Type 0} (n : ℕ) (rules : Rules A) (wear : ℕ) where
     pub record Good (o : Plan) : Type 0 where
       pub sound : Sound (after n rules wear s h o).state (after n rules wear s h o).history
       pub in_vain : NobodyInVain n h₀ (after n rules wear s h o).history
-      pub takes : All (λ a. a ≡ Ok tt) (store_answers n rules wear s o)
+      pub takes : AllByRecursion (λ a. a ≡ Ok tt) (store_answers n rules wear s o)
 
     refused : (b : Bool) (k : Refusal) (o : Plan) → (b ≡ false → Good o) → Good (refuse_if b k o)
     refused true k o g = record { sound = inv; in_vain = λ e. absurd (false≢true e); takes = tt }
@@ -298,7 +298,7 @@ module _ {A : Type 0} (n : ℕ) (rules : Rules A) (wear : ℕ) where
     -- one effect, which asks nothing of the store and agrees no round
     once : (e : Effect) → effect_answer s e ≡ [] → (tell s h e).agreed ≡ false →
         Inv n rules (act n rules wear s e) (retell s τ e) → Fine h₀ s h (e ∷ [])
-    once e a q i = ahead h₀ s h e [] (subst (All (λ x. x ≡ Ok tt)) (sym a) tt)
+    once e a q i = ahead h₀ s h e [] (subst (AllByRecursion (λ x. x ≡ Ok tt)) (sym a) tt)
         (finished h₀ _ _ q (sound_told s h e i))
 
     some : (k : ℕ) → (k ≡ 0 → ⊥) → 0 < k

@@ -2,7 +2,7 @@
 use Rattle.std.proofs.Common.{◌≡◌, ℕ, zero, suc, ◌+◌, ◌-◌, ◌*◌, ◌<◌, ◌≤◌, true, false, cond, eqb, List, [], ◌∷◌, sym, refl, ap, ◌∙◌, inl, inr, arith}
 use Rattle.std.proofs.lemmas.Bool.{cases_lt}
 use Rattle.std.proofs.lemmas.Bool.Decides.{eqb_tells}
-use Rattle.std.specs.List.{AllByRecursion as All}
+use Rattle.std.specs.List.{AllByRecursion}
 use Rattle.protocol.specs.Wire.{Ask, Decision, Message, Reply, Word, is_control, post, tally}
 use Rattle.protocol.proofs.Wires.{asks, at_is, decisions, replies}
 use Rattle.protocol.proofs.Invariant.{InLoom}
@@ -82,12 +82,12 @@ grid_one n (post p q (Decision r v)) h = let x =
     grid_ge n (λ a b. token a b (post p q (Decision r v))) p q h.0 h.1 h.2 in
     let o = at_is p q p q 1 refl refl in omega arith
 
-grid_all : (n : ℕ) (w : List Message) → All (InLoom n) w → tally is_control w ≤ grid n (λ a b. tally (token a b) w)
+grid_all : (n : ℕ) (w : List Message) → AllByRecursion (InLoom n) w → tally is_control w ≤ grid n (λ a b. tally (token a b) w)
 grid_all n [] h = omega arith
 grid_all n (m ∷ w) h = let ih = grid_all n w h.1 in let x = grid_one n m h.0 in
     let y = grid_add n (λ a b. token a b m) (λ a b. tally (token a b) w) in omega arith
 
-pub few_tokens : (n : ℕ) (w : List Message) → All (InLoom n) w → ((a b : ℕ) → tally (token a b) w ≤ 1) →
+pub few_tokens : (n : ℕ) (w : List Message) → AllByRecursion (InLoom n) w → ((a b : ℕ) → tally (token a b) w ≤ 1) →
     tally is_control w ≤ n * (n - 1)
 few_tokens n w h o = let x = grid_all n w h in
     let y = sum_le (λ a. sum (λ b. off a b (tally (token a b) w)) n) (n - 1) n

@@ -1,6 +1,6 @@
 -- What is promised of every run.
 use Rattle.std.specs.Prelude.{◌≡◌, ℕ, ◌-◌, ◌*◌, ◌<◌, ◌≤◌, Bool, true, false, cond, List, length, Ok}
-use Rattle.std.specs.List.{AllByRecursion as All}
+use Rattle.std.specs.List.{AllByRecursion}
 use Rattle.records.specs.Rules.{Rules, replayed}
 use Rattle.records.specs.Stories.{Story, Orphan, NoOrphan}
 use Rattle.store.specs.Meaning.{standing_of}
@@ -50,7 +50,7 @@ pub record TurnLaws {R : Type 0} (n : ℕ) (rules : Rules R) (wear : ℕ) (w : W
   -- the store refuses no put, no keep and no drop
   pub store_takes :
       let plan = plan_of n rules wear w.state step.records step.turn in
-      All (λ answer. answer ≡ Ok tt) (store_answers n rules wear w.state plan)
+      AllByRecursion (λ answer. answer ≡ Ok tt) (store_answers n rules wear w.state plan)
   -- no story decides anything of the state: the turn leaves what it would leave with no history beside it
   pub state_alone :
       let plan = plan_of n rules wear w.state step.records step.turn in
