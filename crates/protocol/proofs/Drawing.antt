@@ -495,11 +495,11 @@ free_of Free h = refl
 free_of (Gathering r) h = absurd (true≢false h)
 free_of (Answered r) h = absurd (true≢false h)
 
-board_restage : {R : Type 0} (rules : Rules R) (g k : Stage) (row : Row) (tb : R) (sd : Kept R) (own kp ck : Story)
+board_restage : {R : Type 0} (rules : Rules R) (g k : Stage) (r : Row) (tb : R) (sd : Kept R) (own kp ck : Story)
     (du : Bool) (base mid since : Story) →
-    row.role.phase ≡ Free → Board rules g row tb sd own kp ck du base mid since →
-    Board rules k row tb sd own kp ck du base mid since
-board_restage rules g k row tb sd own kp ck du base mid since f b = record {
+    r.role.phase ≡ Free → Board rules g r tb sd own kp ck du base mid since →
+    Board rules k r tb sd own kp ck du base mid since
+board_restage rules g k r tb sd own kp ck du base mid since f b = record {
   marked = b.marked;
   standing_is = b.standing_is;
   table_is = b.table_is;

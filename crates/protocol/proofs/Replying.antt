@@ -20,7 +20,7 @@ use Rattle.protocol.proofs.Stored.{stored_at}
 use Rattle.protocol.proofs.Wires.{TakenOff, all_rest, all_taken, asks, at, at_is, at_not_from, at_not_to, decisions}
 use Rattle.protocol.proofs.Wires.{flow_append, flow_drop, flushed_append, flushed_rest, flushed_taken, replies, taken}
 use Rattle.protocol.proofs.Wires.{tally-append, tally_taken, word_label, words}
-use Rattle.protocol.proofs.Invariant.{Board, Chain, FitsNote, InLoom, Inv, Reasoned, Spared, Treed, Wanted, bit}
+use Rattle.protocol.proofs.Invariant.{Board, Chain, FitsNote, Frame, InLoom, Inv, Reasoned, Spared, Treed, Wanted, bit}
 use Rattle.protocol.proofs.Invariant.{child, labels, marks_of, roles_of}
 use Rattle.protocol.proofs.Plain.{at_upd, eqb_same, frame_like, reasoned_like, same_part, tally_other}
 use Rattle.protocol.proofs.Agreement.{bit_true}
@@ -54,7 +54,10 @@ module _ {R : Type 0} (n : ℕ) (rules : Rules R) (wear : ℕ) (s : State R) (τ
       let same : (y : Bool) (a b : ℕ) →
       tally (replies y a b) (without p q s.wire) ≡ tally (replies y a b) s.wire
       = λ y a b. let z = tally_taken (replies y a b) t in let o = nr y a b in omega arith in
-      let fr = frame_like {d = λ a b. tally (decisions a b) s.wire} {d' = λ a b. tally (decisions a b) s.wire}
+      let fr : Frame n τ.stage (roles_of s) (λ a b. tally (asks a b) (without p q s.wire))
+      (λ a b. tally (replies true a b) (without p q s.wire)) (λ a b. tally (replies false a b) (without p q s.wire))
+      (λ a b. tally (decisions a b) s.wire) τ.joined
+      = frame_like {d = λ a b. tally (decisions a b) s.wire} {d' = λ a b. tally (decisions a b) s.wire}
       (λ i. refl) (λ a b. let z = tally_taken (asks a b) t in let o = na a b in
       omega arith) (same true) (same false) (λ a b. refl) inv.frame in
       record {
@@ -75,8 +78,8 @@ module _ {R : Type 0} (n : ℕ) (rules : Rules R) (wear : ℕ) (s : State R) (τ
           awaits = fr.awaits;
           near = fr.near;
           self = fr.self;
-          dec_one = λ a b. (let z = tally_taken (decisions a b) t in let o = fr.dec_one a b in omega arith);
-          dec_free = λ a b h. fr.dec_free a b (let z = tally_taken (decisions a b) t in omega arith);
+          dec_one = λ a b. (let z = tally_taken (decisions a b) t in let o = inv.frame.dec_one a b in omega arith);
+          dec_free = λ a b h. inv.frame.dec_free a b (let z = tally_taken (decisions a b) t in omega arith);
           fits = fr.fits;
           far = fr.far;
           tree = fr.tree;
@@ -462,7 +465,9 @@ module _ {R : Type 0} (n : ℕ) (rules : Rules R) (wear : ℕ) (s : State R) (τ
           | inl i ↦ elim (eqb_tells b p) [
             | inl j ↦ inl (let c = count_replies true b a in
                 let an : ((s.rows a).role.answer && y) ≡ true = sym (count_answer a ∙ rw i.0 refl) ∙ o.1 in
-                let k = yes_came y b a (sym j.1) (sym i.1) (and_parts _ _ an).1 in omega arith)
+                let k : 0 < replies true b a (post p q (Reply y)) =
+                yes_came y b a (sym j.1) (sym i.1) (and_parts (s.rows a).role.answer y an).1 in
+                omega arith)
             | inr j ↦ inr (sym (count_awaited a b ∙ rw (i.0, j.0) refl) ∙ o.0, yes_before a o.1)
           ]
           | inr i ↦ inr (sym (count_awaited a b ∙ rw i.0 refl) ∙ o.0, yes_before a o.1)
