@@ -25,12 +25,14 @@ use Rattle.protocol.proofs.Decided.{all_saving, board_answered, board_at, board_
 use Rattle.protocol.proofs.Orphans.{agreed_back, agreed_save, back_free, back_orphan, no_words, save_free}
 use Rattle.protocol.proofs.Orphans.{save_orphan}
 
-pub all_both : (P Q : Message → Type 0) (w : List Message) → AllByRecursion P w → AllByRecursion Q w → AllByRecursion (λ m. P m × Q m) w
+pub all_both : (P Q : Message → Type 0) (w : List Message) → AllByRecursion P w → AllByRecursion Q w →
+    AllByRecursion (λ m. P m × Q m) w
 all_both P Q [] a b = tt
 all_both P Q (m ∷ w) a b = ((a.0, b.0), all_both P Q w a.1 b.1)
 
 -- each message counts at most what the whole wire does
-pub all_le : (h : ℕ → ℕ → Message → ℕ) (w : List Message) → AllByRecursion (λ m. (a b : ℕ) → h a b m ≤ tally (h a b) w) w
+pub all_le : (h : ℕ → ℕ → Message → ℕ) (w : List Message) →
+    AllByRecursion (λ m. (a b : ℕ) → h a b m ≤ tally (h a b) w) w
 all_le h [] = tt
 all_le h (m ∷ w) = ((λ a b. omega arith), All-weaker _ _ (λ x k a b. let z = k a b in omega arith) w (all_le h w))
 

@@ -11,7 +11,7 @@ use Rattle.protocol.specs.Rows.{Answered, Back, Free, Gathering, Phase, Round, S
 use Rattle.protocol.specs.Runs.{Step, World, after, after_step, run, told_by}
 use Rattle.protocol.specs.Turns.{Answer, Checkpoint, Deliver, Do, Plan, Refusal, Restart, Rollback, Send, SetWilling}
 use Rattle.protocol.specs.Turns.{Stop, Turn, Work, WrongTable, asked_when, decided_when, delivered, heard_when}
-use Rattle.protocol.specs.Turns.{nobody_below, refuse_if, settled, settled_by, taken_off, turn_plan}
+use Rattle.protocol.specs.Turns.{most_words, nobody_below, refuse_if, settled, settled_by, taken_off, turn_plan}
 use Rattle.protocol.specs.Wire.{Ask, Decision, Message, Note, Reply, Word, earliest, goes, is_control, is_word, post}
 use Rattle.protocol.specs.Wire.{posts, tally, without}
 use Rattle.protocol.proofs.Wires.{tally-append}
@@ -124,9 +124,9 @@ module _ {A : Type 0} (n : ℕ) (rules : Rules A) (wear : ℕ) where
   note_none s p q (Reply y) = let e = settled_none (act n rules wear s (Counts p q y)) q in omega arith
   note_none s p q (Decision r v) = obeyed_none (has_answered r (s.rows q).role.phase) p q r v
 
-  module _ (s : State A) (τ : History) (few : tally is_word s.wire ≤ 682) where
+  module _ (s : State A) (τ : History) (few : tally is_word s.wire ≤ most_words) where
     pub record Few (o : Plan) : Type 0 where
-      pub few' : tally is_word (after n rules wear s τ o).state.wire ≤ 682
+      pub few' : tally is_word (after n rules wear s τ o).state.wire ≤ most_words
 
     skip : (b : Bool) (k : Refusal) (o : Plan) → (b ≡ false → Few o) → Few (refuse_if b k o)
     skip true k o h = record { few' = few }
@@ -144,7 +144,7 @@ module _ {A : Type 0} (n : ℕ) (rules : Rules A) (wear : ℕ) where
     few_turn (Send p q w) = skip _ _ _
         (λ _. skip _ _ _ (λ _. skip _ _ _ (λ _. skip _ _ _ (λ _. skip _ _ _ (λ _. skip _ _ _ (λ _. skip _ _ _ (λ e.
         record {
-          few' = (let f = effect_words s (Sends p q w) in let g = leb-false 682 (tally is_word s.wire) e in
+          few' = (let f = effect_words s (Sends p q w) in let g = leb-false most_words (tally is_word s.wire) e in
               omega arith);
         })))))))
     few_turn (Deliver p q) = skip _ _ _ (λ _. skip _ _ _ (λ _. skip _ _ _ (λ _. took p q (earliest p q s.wire))))
@@ -161,13 +161,13 @@ module _ {A : Type 0} (n : ℕ) (rules : Rules A) (wear : ℕ) where
     few_turn (Restart p) = skip _ _ _ (λ _. skip _ _ _ (λ _. plain _ _ refl))
     few_turn (SetWilling p b) = skip _ _ _ (λ _. skip _ _ _ (λ _. plain _ _ refl))
 
-  pub few_step : (w : World A) (step : Step) → tally is_word w.state.wire ≤ 682 →
-      tally is_word (after_step n rules wear w step).state.wire ≤ 682
+  pub few_step : (w : World A) (step : Step) → tally is_word w.state.wire ≤ most_words →
+      tally is_word (after_step n rules wear w step).state.wire ≤ most_words
   few_step w step h = (skip w.state (new_turn w.history) h (not (eqb step.records n)) WrongTable
       (turn_plan n rules wear w.state step.turn)
       (λ _. few_turn w.state (new_turn w.history) h step.turn)).few'
 
-  pub few_run : (w : World A) → tally is_word w.state.wire ≤ 682 → (steps : List Step) →
-      tally is_word (run n rules wear w steps).state.wire ≤ 682
+  pub few_run : (w : World A) → tally is_word w.state.wire ≤ most_words → (steps : List Step) →
+      tally is_word (run n rules wear w steps).state.wire ≤ most_words
   few_run w h [] = h
   few_run w h (step ∷ steps) = few_run (after_step n rules wear w step) (few_step w step h) steps

@@ -23,8 +23,8 @@ use Rattle.protocol.specs.Runs.{Step, World, after, after_step, new_world, run, 
 use Rattle.protocol.specs.Tables.{changed}
 use Rattle.protocol.specs.Turns.{Answer, Checkpoint, Deliver, Do, Plan, Refusal, Refuse, Restart, Rollback, Send}
 use Rattle.protocol.specs.Turns.{SetWilling, Stop, Turn, Work, WrongTable, asked_when, decided_when, delivered}
-use Rattle.protocol.specs.Turns.{heard_when, is_open, moved, nobody_below, plan_of, refuse_if, settled, settled_by, started}
-use Rattle.protocol.specs.Turns.{store_answers, taken_off, turn_plan}
+use Rattle.protocol.specs.Turns.{heard_when, is_open, most_words, moved, nobody_below, plan_of, refuse_if, settled, settled_by}
+use Rattle.protocol.specs.Turns.{started, store_answers, taken_off, turn_plan}
 use Rattle.protocol.specs.Wire.{Ask, Decision, Message, Note, Reply, Word, earliest, is_control, is_word, post, tally}
 use Rattle.protocol.proofs.Labels.{LabelOrphan, NoLabelOrphan, Positive, heard_told, made, positive_right, sent_told}
 use Rattle.protocol.proofs.Labels.{told_heard, told_positive, told_sent}
@@ -503,7 +503,7 @@ module _ {A : Type 0} (n : ℕ) (rules : Rules A) (wear : ℕ) where
   keeps_run w i (step ∷ steps) =
       keeps_run (after_step n rules wear w step) (keeps_step w.state w.history i step).sound steps
 
-  module _ (s : State A) (h : History) (inv : Sound s h) (few : tally is_word s.wire ≤ 682) where
+  module _ (s : State A) (h : History) (inv : Sound s h) (few : tally is_word s.wire ≤ most_words) where
     one_token : (a b : ℕ) → tally (token a b) s.wire ≤ 1
     one_token a b =
         let x = token_is a b s.wire in let y = inv.frame.tokens a b in let z = inv.frame.dec_one a b in

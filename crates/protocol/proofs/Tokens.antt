@@ -82,7 +82,8 @@ grid_one n (post p q (Decision r v)) h = let x =
     grid_ge n (λ a b. token a b (post p q (Decision r v))) p q h.0 h.1 h.2 in
     let o = at_is p q p q 1 refl refl in omega arith
 
-grid_all : (n : ℕ) (w : List Message) → AllByRecursion (InLoom n) w → tally is_control w ≤ grid n (λ a b. tally (token a b) w)
+grid_all : (n : ℕ) (w : List Message) → AllByRecursion (InLoom n) w →
+    tally is_control w ≤ grid n (λ a b. tally (token a b) w)
 grid_all n [] h = omega arith
 grid_all n (m ∷ w) h = let ih = grid_all n w h.1 in let x = grid_one n m h.0 in
     let y = grid_add n (λ a b. token a b m) (λ a b. tally (token a b) w) in omega arith

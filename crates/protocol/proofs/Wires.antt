@@ -80,13 +80,13 @@ pub tally_taken : (h : Message → ℕ) {p q : ℕ} {m : Message} {w v : List Me
 tally_taken h (here g) = refl
 tally_taken h (there g t) = let ih = tally_taken h t in omega arith
 
-pub all_rest : (P : Message → Type 0) {p q : ℕ} {m : Message} {w v : List Message} → TakenOff p q m w v → AllByRecursion P w →
-    AllByRecursion P v
+pub all_rest : (P : Message → Type 0) {p q : ℕ} {m : Message} {w v : List Message} → TakenOff p q m w v →
+    AllByRecursion P w → AllByRecursion P v
 all_rest P (here g) a = a.1
 all_rest P (there g t) a = (a.0, all_rest P t a.1)
 
-pub all_taken : (P : Message → Type 0) {p q : ℕ} {m : Message} {w v : List Message} → TakenOff p q m w v → AllByRecursion P w →
-    P m
+pub all_taken : (P : Message → Type 0) {p q : ℕ} {m : Message} {w v : List Message} → TakenOff p q m w v →
+    AllByRecursion P w → P m
 all_taken P (here g) a = a.0
 all_taken P (there g t) a = all_taken P t a.1
 
@@ -139,12 +139,13 @@ flow_push g lo hi m [] l f = inr (omega arith, omega arith)
 flow_push g lo hi m (x ∷ w) l (inl f) = inl (f.0, flow_push g lo hi m w l f.1)
 flow_push g lo hi m (x ∷ w) l (inr f) = inr (f.0, flow_push g (g x) hi m w l f.1)
 
-pub flow_none : (g : Message → ℕ) (lo hi : ℕ) (v : List Message) → AllByRecursion (λ m. g m ≡ 0) v → lo ≤ hi → Flow g lo hi v
+pub flow_none : (g : Message → ℕ) (lo hi : ℕ) (v : List Message) → AllByRecursion (λ m. g m ≡ 0) v → lo ≤ hi →
+    Flow g lo hi v
 flow_none g lo hi [] a l = l
 flow_none g lo hi (m ∷ v) a l = inl (a.0, flow_none g lo hi v a.1 l)
 
-pub flow_append : (g : Message → ℕ) (lo hi : ℕ) (w v : List Message) → AllByRecursion (λ m. g m ≡ 0) v → Flow g lo hi w →
-    Flow g lo hi (w ++ v)
+pub flow_append : (g : Message → ℕ) (lo hi : ℕ) (w v : List Message) → AllByRecursion (λ m. g m ≡ 0) v →
+    Flow g lo hi w → Flow g lo hi (w ++ v)
 flow_append g lo hi [] v a f = flow_none g lo hi v a f
 flow_append g lo hi (x ∷ w) v a (inl f) = inl (f.0, flow_append g lo hi w v a f.1)
 flow_append g lo hi (x ∷ w) v a (inr f) = inr (f.0, flow_append g (g x) hi w v a f.1)
