@@ -1,6 +1,6 @@
 -- Turn lines and first lines that are spelled are read back, and what is read was spelled so. Assumes nothing.
 use Rattle.std.proofs.Common.{◌≡◌, ℕ, ◌^◌, ◌<◌, Bool, true, false, cond, eqb, List, [], ◌∷◌, ◌++◌, Some, Option, sym, refl, ap, ◌∙◌, subst}
-use Rattle.std.specs.List.{flat_map, AllByRecursion as All}
+use Rattle.std.specs.List.{flat_map, AllByRecursion}
 use Rattle.std.proofs.lemmas.List.{append_assoc}
 use Rattle.std.proofs.lemmas.Bool.{eqb-true}
 use Rattle.turns.specs.declared.turn.Turn.{Turn}
@@ -11,7 +11,7 @@ use Rattle.lines.proofs.Spelling.{none_not_some, then_was, then_some, byte_spell
 
 -- numbers below 2^32
 abbrev Small : List ℕ → Type 0
-Small ns = All (λ n. n < 2 ^ 32) ns
+Small ns = AllByRecursion (λ n. n < 2 ^ 32) ns
 
 fields_cons : (a : ℕ) (ns rest : List ℕ) → spell_fields (a ∷ ns) ++ rest ≡ spell_field a ++ (spell_fields ns ++ rest)
 fields_cons a ns rest =

@@ -1,6 +1,6 @@
 -- How a run file is written: the bytes that spell a loom and its turns.
 use Rattle.std.specs.Prelude.{◌≡◌, ℕ, ◌^◌, ◌<◌, ◌≤◌, List, [], ◌∷◌, ◌++◌, length, codes, decimal}
-use Rattle.std.specs.List.{flat_map, AllByRecursion as All}
+use Rattle.std.specs.List.{flat_map, AllByRecursion}
 use Rattle.turns.specs.declared.turn.Turn.{Turn}
 use Rattle.turns.specs.declared.turn.Turn.TheVariants.{Work, Send, Deliver, Checkpoint, Rollback, Stop, Restart, SetWilling}
 use Rattle.lines.specs.declared.loom.StoreKind.{StoreKind}
@@ -74,11 +74,11 @@ abbrev pub FitLoom : Loom → Type 0
 FitLoom loom = (1 ≤ loom.boards) × (loom.boards ≤ 19) × FitStore loom.boards loom.store
 
 abbrev pub FitTurn : Turn → Type 0
-FitTurn t = All (λ n. n < 2 ^ 32) (fields_of t)
+FitTurn t = AllByRecursion (λ n. n < 2 ^ 32) (fields_of t)
 
 -- these bytes spell this loom and these turns, at most 4,096 of them, all within bounds
 pub record SpelledBy (bs : List ℕ) (given : Loom) (ts : List Turn) : Type 0 where
   pub bytes : bs ≡ spell_file given ts
   pub loom : FitLoom given
-  pub turns : All FitTurn ts
+  pub turns : AllByRecursion FitTurn ts
   pub few : length ts ≤ 4096

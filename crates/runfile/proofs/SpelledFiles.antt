@@ -1,6 +1,6 @@
 -- Files that are spelled are read back, and what is read was spelled so. Assumes nothing.
 use Rattle.std.proofs.Common.{◌≡◌, ℕ, zero, suc, ◌+◌, ◌-◌, ◌<◌, ◌≤◌, Bool, true, false, cond, leb, List, [], ◌∷◌, ◌++◌, length, Some, None, Ok, Err, vec_items, Option, Result, sym, refl, ap, ◌∙◌, subst, arith}
-use Rattle.std.specs.List.{flat_map, AllByRecursion as All}
+use Rattle.std.specs.List.{flat_map, AllByRecursion}
 use Rattle.std.proofs.lemmas.Bool.{cond-true, cond-false, le-leb, lt-leb}
 use Rattle.turns.specs.declared.turn.Turn.{Turn}
 use Rattle.lines.specs.Lines.{loom_line}
@@ -21,7 +21,7 @@ use Rattle.lines.proofs.SpelledLooms.{loom_spelled, loom_was}
 next_spelled : (t : Turn) (bs : List ℕ) (line : ℕ) → FitTurn t → line < 4098 → next_turn (placed (spell_turn t ++ bs) line) ≡ Ok (Some (t, placed bs (line + 1)))
 next_spelled t bs line f l = cond-false _ _ _ (lt-leb 4098 line l) ∙ ap (after_turn line) (turn_spelled t bs f)
 
-turns_spelled : (m : ℕ) (ts : List Turn) (line : ℕ) → All FitTurn ts → length ts ≤ m → line + length ts ≤ 4098
+turns_spelled : (m : ℕ) (ts : List Turn) (line : ℕ) → AllByRecursion FitTurn ts → length ts ≤ m → line + length ts ≤ 4098
     → turns_from m (placed (flat_map spell_turn ts) line) ≡ Ok ts
 turns_spelled m [] line f h l = turns_none m (placed [] line) refl
 turns_spelled zero (t ∷ ts) line f h l = absurd (omega arith)
@@ -29,7 +29,7 @@ turns_spelled (suc m) (t ∷ ts) line f h l =
     turns_some m _ _ (next_spelled t (flat_map spell_turn ts) line f.0 (omega arith))
     ∙ ap (before t) (turns_spelled m ts (line + 1) f.1 (omega arith) (omega arith))
 
-pub file_spelled : (loom : Loom) (ts : List Turn) → FitLoom loom → All FitTurn ts → length ts ≤ 4096 → length (spell_file loom ts) ≤ 32768
+pub file_spelled : (loom : Loom) (ts : List Turn) → FitLoom loom → AllByRecursion FitTurn ts → length ts ≤ 4096 → length (spell_file loom ts) ≤ 32768
     → file_of (spell_file loom ts) ≡ Ok (loom, ts)
 file_spelled loom ts fl ft few short =
     cond-true _ _ _ (le-leb _ _ short)
@@ -39,7 +39,7 @@ file_spelled loom ts fl ft few short =
 -- what is read at a place was spelled there: these turns, each within bounds, in lines that may hold one
 pub record TurnsSpelled (at : Place) (ts : List Turn) : Type 0 where
   pub bytes : at.rest ≡ flat_map spell_turn ts
-  pub fit : All FitTurn ts
+  pub fit : AllByRecursion FitTurn ts
   pub few : length ts ≤ 4098 - at.line
 
 before_was : (t : Turn) (r : Result (List Turn) Refusal) (ts : List Turn) → before t r ≡ Ok ts → (us : List Turn) × ((r ≡ Ok us) × (t ∷ us ≡ ts))

@@ -1,6 +1,6 @@
 -- What the reader hands out, in terms of what a file means.
 use Rattle.std.specs.Prelude.{◌≡◌, ℕ, ◌≤◌, List, length, IfOk, Some, None, Ok, Err, vec_items, Option, Result, Vec}
-use Rattle.std.specs.List.{AllByRecursion as All}
+use Rattle.std.specs.List.{AllByRecursion}
 use Rattle.std.specs.declared.alloc.Global.{Global}
 use Rattle.turns.specs.declared.turn.Turn.{Turn}
 use Rattle.lines.specs.declared.loom.Loom.{Loom}
@@ -43,7 +43,7 @@ Read r meant = Told (λ file. (file.loom, vec_items file.turns)) r meant
 -- The laws of reading. What is spelled is read back: at most 4,096 turns in at most 32,768 bytes.
 abbrev pub ReadsBack : List ℕ → Result RunFile ReadError → Type 0
 ReadsBack bs r =
-    (loom : Loom) (turns : List Turn) → FitLoom loom → All FitTurn turns → length turns ≤ 4096 → length bs ≤ 32768
+    (loom : Loom) (turns : List Turn) → FitLoom loom → AllByRecursion FitTurn turns → length turns ≤ 4096 → length bs ≤ 32768
     → bs ≡ spell_file loom turns → Read r (Ok (loom, turns))
 
 -- What is read was spelled so, in just these bytes.
