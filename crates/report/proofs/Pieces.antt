@@ -1,5 +1,5 @@
 -- A line that is made piece by piece. Assumes nothing.
-use Rattle.std.proofs.Common.{◌≡◌, ℕ, List, [], ◌++◌, sym, ap, ◌∙◌, append_assoc}
+use Rattle.std.proofs.Common.{◌≡◌, ℕ, List, [], ◌++◌, ap, ◌∙◌, append_assoc}
 
 -- done is made, and what is to come makes it whole
 pub record Ahead (done rest whole : List ℕ) : Type 0 where

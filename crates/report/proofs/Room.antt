@@ -1,13 +1,13 @@
 -- 48,000 bytes suffice for a report. Assumes nothing.
-use Rattle.std.proofs.Common.{◌≡◌, ℕ, suc, ◌+◌, ◌*◌, ◌^◌, ◌<◌, ◌≤◌, Bool, true, false, cond, leb, List, [], ◌∷◌, ◌++◌, length, is_ok, Ok, Err, decimal, Result, sym, refl, ap, ◌∙◌, subst, arith}
+use Rattle.std.proofs.Common.{◌≡◌, ℕ, ◌+◌, ◌*◌, ◌^◌, ◌<◌, ◌≤◌, Bool, true, false, cond, leb, List, [], ◌∷◌, length, is_ok, Ok, decimal, Result, ap, ◌∙◌, arith}
 use Rattle.std.specs.List.{AllByRecursion as All}
 use Rattle.std.proofs.lemmas.Fmt.{length-decimal-le}
-use Rattle.std.proofs.lemmas.List.{length-append, append_assoc}
+use Rattle.std.proofs.lemmas.List.{length-append}
 use Rattle.std.proofs.lemmas.Bool.{le-leb, lt-leb}
 use Rattle.records.specs.declared.feed.Feed.{Feed}
 use Rattle.records.specs.declared.harness.Harness.{Harness}
 use Rattle.report.specs.Lines.{harness_text, feed_text, state_number, turn_line, board_line, end_line}
-use Rattle.report.specs.Reports.{Answer, BoardFacts, turn_lines_from, turn_lines, board_lines, report, TurnsWritten, BoardsWritten}
+use Rattle.report.specs.Reports.{Answer, BoardFacts, turn_lines_from, turn_lines, board_lines}
 use Rattle.report.specs.Reports.{SmallAnswer, ShortBoard, TurnFits, BoardFits, EndFits}
 use Rattle.report.specs.Writers.{tried, refused, fits, turn_tried, board_tried, end_tried}
 use Rattle.report.specs.declared.state.BoardState.{BoardState}

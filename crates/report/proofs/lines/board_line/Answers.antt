@@ -7,7 +7,7 @@ pub returns : goal.returns
 returns g c = record {
   written =
       ended (codes "\n")
-      (piece_as c.as-slice.result.now (g.R.Spelled.spelled c.args.of)
+      (piece_as c.as_slice.result.now (g.R.Spelled.spelled c.args.of)
       (piece (codes " ")
       (piece_as (decimal c.number.result) (decimal (state_number c.args.state))
       (piece (codes " ")
@@ -15,11 +15,11 @@ returns g c = record {
       (piece (codes "B ")
       (begun c.new-line.ensures.written)
       c.push.ensures.written)
-      c.push-decimal.ensures.written)
+      c.push_decimal.ensures.written)
       c.push-2.ensures.written)
-      c.push-decimal-2.ensures.written (ap decimal c.number.ensures))
+      c.push_decimal-2.ensures.written (ap decimal c.number.ensures))
       c.push-3.ensures.written)
-      c.push-4.ensures.written (c.as-slice.ensures.value ∙ c.spell-spelling.ensures.written))
+      c.push-4.ensures.written (c.as_slice.ensures.value ∙ c.spell-spelling.ensures.written))
       c.push-5.ensures.written;
   short = subst (λ (xs : List ℕ). length xs ≤ 30) c.spell-spelling.ensures.written c.spell-spelling.ensures.short;
 }

@@ -1,5 +1,5 @@
-use Rattle.std.proofs.Common.{codes, decimal, ap, ◌∙◌}
-use Rattle.report.proofs.Pieces.{begun, piece, piece_as, ended}
+use Rattle.std.proofs.Common.{codes, decimal}
+use Rattle.report.proofs.Pieces.{begun, piece, ended}
 use Rattle.report.proofs.lines.end_line.Goals as goal
 
 pub returns : goal.returns
@@ -11,7 +11,7 @@ returns c =
     (piece (codes "END ")
     (begun c.new-line.ensures.written)
     c.push.ensures.written)
-    c.push-decimal.ensures.written)
+    c.push_decimal.ensures.written)
     c.push-2.ensures.written)
-    c.push-decimal-2.ensures.written)
+    c.push_decimal-2.ensures.written)
     c.push-3.ensures.written

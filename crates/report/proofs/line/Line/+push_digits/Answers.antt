@@ -1,4 +1,4 @@
-use Rattle.std.proofs.Common.{◌≡◌, ℕ, ◌+◌, ◌/◌, ◌%◌, ◌^◌, ◌<◌, ◌≤◌, List, [], ◌∷◌, ◌++◌, length, decimal, sym, refl, ap, ◌∙◌, append_assoc, mod-eq_of_lt, arith}
+use Rattle.std.proofs.Common.{◌≡◌, ℕ, ◌+◌, ◌/◌, ◌%◌, ◌^◌, ◌<◌, ◌≤◌, [], ◌∷◌, ◌++◌, length, decimal, sym, ap, ◌∙◌, append_assoc, mod-eq_of_lt, arith}
 use Rattle.std.proofs.lemmas.Fmt.{decimal_digit, decimal_step, decimal_nonempty}
 use Rattle.std.proofs.lemmas.List.{length-append, length_push}
 use Rattle.report.specs.Texts.{text}
@@ -18,19 +18,19 @@ returns-then-n-lt10 t c =
     ∙ ap (λ d. text c.args.self.now ++ (48 + d) ∷ []) (mod-eq_of_lt c.if-n-lt10.true)
     ∙ ap (λ ds. text c.args.self.now ++ ds) (sym one)
 
-pub push-digits-requires : goal.push-digits-requires
-push-digits-requires t c =
+pub push_digits-requires : goal.push_digits-requires
+push_digits-requires t c =
     let l = longer c.args.n c.if-n-lt10.false (omega arith) in
     (omega arith, omega (arith, c.requires, l))
 
 pub push-requires-2 : goal.push-requires-2
 push-requires-2 t c =
     let l = longer c.args.n c.if-n-lt10.false (omega arith) in
-    let e = ap length c.push-digits.ensures ∙ length-append (text c.args.self.now) (decimal (c.args.n / 10)) in
+    let e = ap length c.push_digits.ensures ∙ length-append (text c.args.self.now) (decimal (c.args.n / 10)) in
     omega (arith, c.requires, l, e)
 
 pub returns : goal.returns
 returns t c =
     let digits = decimal_step c.args.n c.if-n-lt10.false (omega arith) in
-    c.push-2.ensures.written ∙ ap (λ xs. xs ++ (48 + c.args.n % 10) ∷ []) c.push-digits.ensures
+    c.push-2.ensures.written ∙ ap (λ xs. xs ++ (48 + c.args.n % 10) ∷ []) c.push_digits.ensures
     ∙ append_assoc (text c.args.self.now) (decimal (c.args.n / 10)) _ ∙ ap (λ ds. text c.args.self.now ++ ds) (sym digits)

@@ -7,8 +7,8 @@ use Rattle.report.proofs.line.Line.push.Goals as goal
 pub returns : goal.returns
 returns c =
     let line = c.args.self.now in
-    let after = c.copy-from-slice.ensures.after in
+    let after = c.copy_from_slice.ensures.after in
     let written =
-    take-put_mid line.len _ line.bytes c.copy-from-slice.new.self _ (ap (λ ys. line.len + length ys) (sym after)) (omega arith)
+    take-put_mid line.len _ line.bytes c.copy_from_slice.new.self _ (ap (λ ys. line.len + length ys) (sym after)) (omega arith)
     ∙ ap (λ ys. take line.len line.bytes ++ ys) after in
     record { written = written; long = ap length written ∙ length-append (text line) c.args.more.now }

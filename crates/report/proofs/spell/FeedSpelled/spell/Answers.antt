@@ -7,14 +7,14 @@ use Rattle.report.proofs.spell.FeedSpelled.spell.Goals as goal
 
 pub returns : goal.returns
 returns c =
-    let written : text c.push-hex-2.new.self ≡ feed_text c.args.self =
-    ended_as (hex_of c.shown-bits-2.result) (hex_of (shown c.args.self.length))
+    let written : text c.push_hex-2.new.self ≡ feed_text c.args.self =
+    ended_as (hex_of c.shown_bits-2.result) (hex_of (shown c.args.self.length))
     (piece (codes " ")
-    (piece_as (hex_of c.shown-bits.result) (hex_of (shown c.args.self.tension))
+    (piece_as (hex_of c.shown_bits.result) (hex_of (shown c.args.self.tension))
     (piece (codes " ")
-    (piece (decimal c.args.self.pick) (begun c.new-line.ensures.written) c.push-decimal.ensures.written)
+    (piece (decimal c.args.self.pick) (begun c.new-line.ensures.written) c.push_decimal.ensures.written)
     c.push.ensures.written)
-    c.push-hex.ensures.written (ap hex_of c.shown-bits.ensures))
+    c.push_hex.ensures.written (ap hex_of c.shown_bits.ensures))
     c.push-2.ensures.written)
-    c.push-hex-2.ensures.written (ap hex_of c.shown-bits-2.ensures) in
+    c.push_hex-2.ensures.written (ap hex_of c.shown_bits-2.ensures) in
     record { written = written; short = subst (λ (xs : List ℕ). length xs ≤ 30) (sym written) (feed_short c.args.self (omega arith)) }

@@ -5,9 +5,9 @@ use Rattle.report.proofs.writer.TurnLines.turn.Goals as goal
 
 pub returns : goal.returns
 returns c = record {
-  answer = c.try-turn.ensures.answer;
-  memory = c.try-turn.ensures.memory;
-  follows = turn_follows c.args.self c.args.out.now (answered c.args.answer c.args.kind) c.try-turn.result c.try-turn.new.out
-      c.try-turn.ensures.answer c.try-turn.ensures.memory;
-  fits = turn_fits c.args.self c.args.out.now (answered c.args.answer c.args.kind) c.try-turn.result c.try-turn.ensures.answer;
+  answer = c.try_turn.ensures.answer;
+  memory = c.try_turn.ensures.memory;
+  follows = turn_follows c.args.self c.args.out.now (answered c.args.answer c.args.kind) c.try_turn.result c.try_turn.new.out
+      c.try_turn.ensures.answer c.try_turn.ensures.memory;
+  fits = turn_fits c.args.self c.args.out.now (answered c.args.answer c.args.kind) c.try_turn.result c.try_turn.ensures.answer;
 }
