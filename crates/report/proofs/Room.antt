@@ -1,6 +1,6 @@
 -- 48,000 bytes suffice for a report. Assumes nothing.
 use Rattle.std.proofs.Common.{◌≡◌, ℕ, ◌+◌, ◌*◌, ◌^◌, ◌<◌, ◌≤◌, Bool, true, false, cond, leb, List, [], ◌∷◌, length, is_ok, Ok, decimal, Result, ap, ◌∙◌, arith}
-use Rattle.std.specs.List.{AllByRecursion as All}
+use Rattle.std.specs.List.{AllByRecursion}
 use Rattle.std.proofs.lemmas.Fmt.{length-decimal-le}
 use Rattle.std.proofs.lemmas.List.{length-append}
 use Rattle.std.proofs.lemmas.Bool.{le-leb, lt-leb}
@@ -29,7 +29,7 @@ turn_short n a k hn ha hk =
     let dk = digits 1 k (omega arith) (omega arith) (omega arith) in
     simp length-append (omega arith)
 
-turns_short : (n : ℕ) (ts : List Answer) → All SmallAnswer ts → n + length ts ≤ 4096 → length (turn_lines_from n ts) ≤ 10 * length ts
+turns_short : (n : ℕ) (ts : List Answer) → AllByRecursion SmallAnswer ts → n + length ts ≤ 4096 → length (turn_lines_from n ts) ≤ 10 * length ts
 turns_short n [] s h = omega arith
 turns_short n (t ∷ ts) s h =
     let line = turn_short (n + 1) t.number t.kind (omega arith) s.0.0 s.0.1 in
@@ -49,7 +49,7 @@ board_short b s =
     let ds = digits 1 (state_number b.state) (omega arith) (omega arith) (omega arith) in
     simp length-append (omega (arith, s.1))
 
-boards_short : (bs : List BoardFacts) → All ShortBoard bs → length (board_lines bs) ≤ 38 * length bs
+boards_short : (bs : List BoardFacts) → AllByRecursion ShortBoard bs → length (board_lines bs) ≤ 38 * length bs
 boards_short [] s = omega arith
 boards_short (b ∷ bs) s =
     let line = board_short b s.0 in

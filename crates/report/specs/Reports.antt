@@ -1,6 +1,6 @@
 -- Whole reports, and how far a writer has come with one.
 use Rattle.std.specs.Prelude.{◌≡◌, ℕ, ◌+◌, ◌<◌, ◌≤◌, true, List, [], ◌∷◌, ◌++◌, length, take, drop, is_ok, IfOk, Result, slice_index}
-use Rattle.std.specs.List.{flat_map, AllByRecursion as All}
+use Rattle.std.specs.List.{flat_map, AllByRecursion}
 use Rattle.report.specs.Lines.{turn_line, board_line, end_line}
 use Rattle.report.specs.declared.state.BoardState.{BoardState}
 use Rattle.report.specs.declared.writer.BoardLines.{BoardLines}
@@ -89,14 +89,15 @@ ShortBoard b = (b.board < 100) × (length b.spelling ≤ 30)
 -- 48,000 bytes always suffice: no line of such a report is refused for want of room
 abbrev pub TurnFits : TurnLines → List ℕ → Answer → Result TurnLines (NotWritten TurnLines) → Type 0
 TurnFits w out a r =
-    (ts : List Answer) → TurnsWritten w out ts → All SmallAnswer ts → SmallAnswer a → length ts < 4096 → 48000 ≤ length out → is_ok r ≡ true
+    (ts : List Answer) → TurnsWritten w out ts → AllByRecursion SmallAnswer ts → SmallAnswer a → length ts < 4096
+    → 48000 ≤ length out → is_ok r ≡ true
 
 abbrev pub BoardFits : BoardLines → List ℕ → BoardFacts → Result BoardLines (NotWritten BoardLines) → Type 0
 BoardFits w out b r =
-    (ts : List Answer) (bs : List BoardFacts) → BoardsWritten w out ts bs → All SmallAnswer ts → length ts ≤ 4096 → All ShortBoard bs → ShortBoard b
-    → length bs < 19 → 48000 ≤ length out → is_ok r ≡ true
+    (ts : List Answer) (bs : List BoardFacts) → BoardsWritten w out ts bs → AllByRecursion SmallAnswer ts → length ts ≤ 4096
+    → AllByRecursion ShortBoard bs → ShortBoard b → length bs < 19 → 48000 ≤ length out → is_ok r ≡ true
 
 abbrev pub EndFits : BoardLines → List ℕ → Result Report (NotWritten BoardLines) → Type 0
 EndFits w out r =
-    (ts : List Answer) (bs : List BoardFacts) → BoardsWritten w out ts bs → All SmallAnswer ts → length ts ≤ 4096 → All ShortBoard bs
-    → length bs ≤ 19 → 48000 ≤ length out → is_ok r ≡ true
+    (ts : List Answer) (bs : List BoardFacts) → BoardsWritten w out ts bs → AllByRecursion SmallAnswer ts → length ts ≤ 4096
+    → AllByRecursion ShortBoard bs → length bs ≤ 19 → 48000 ≤ length out → is_ok r ≡ true
