@@ -2,3 +2,6 @@
 #![tactic(auto)]
 
 pub mod laws;
+
+// the turns themselves, beside their rules
+pub use turns::turn;
