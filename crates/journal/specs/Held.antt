@@ -4,7 +4,7 @@ use Rattle.store.specs.Meaning.{Meaning}
 use Rattle.journal.specs.Journals.{journal_meaning, roomy, appended}
 use Rattle.journal.specs.Pointers.{Threaded, Traced}
 use Rattle.journal.specs.declared.entry.Entry.{Entry}
-use Rattle.journal.specs.declared.store.Journal.{Journal}
+use Rattle.journal.specs.declared.memory.Journal.{Journal}
 
 -- what it means
 abbrev pub meaning_of : {R : Type 0} → R → Journal R → Meaning R

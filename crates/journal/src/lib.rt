@@ -4,5 +4,5 @@
 mod calls;
 pub mod entry;
 mod log;
-pub mod store;
+pub mod memory;
 pub mod vectors;

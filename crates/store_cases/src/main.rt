@@ -6,7 +6,7 @@
 
 use anyhow::anyhow;
 use journal::entry::{Entry, EntryKind};
-use journal::store::Journal;
+use journal::memory::Journal;
 use records::harness::Harness;
 use records::part::Part;
 use store::refusal::{MakeRefusal, StoreRefusal};

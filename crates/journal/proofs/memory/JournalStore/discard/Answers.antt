@@ -7,7 +7,7 @@ use Rattle.journal.specs.declared.entry.Entry.{Entry}
 use Rattle.journal.specs.declared.entry.EntryKind.TheVariants.{Discard}
 use Rattle.journal.proofs.Means.{discard_means}
 use Rattle.journal.proofs.Pointers.{traced, traced_call, keep_range}
-use Rattle.journal.proofs.store.JournalStore.discard.Goals as goal
+use Rattle.journal.proofs.memory.JournalStore.discard.Goals as goal
 
 pub returns-in-Ok : goal.returns-in-Ok
 returns-in-Ok g c =

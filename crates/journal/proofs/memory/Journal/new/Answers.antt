@@ -4,7 +4,7 @@ use Rattle.journal.specs.Pointers.{Traced}
 use Rattle.journal.specs.declared.entry.Entry.{Entry}
 use Rattle.journal.proofs.Fresh.{log_is, fresh_means, fresh_roomy, made-fits}
 use Rattle.journal.proofs.Pointers.{traced, threaded_fresh}
-use Rattle.journal.proofs.store.Journal.new.Goals as goal
+use Rattle.journal.proofs.memory.Journal.new.Goals as goal
 
 pub returns : goal.returns
 returns g c =

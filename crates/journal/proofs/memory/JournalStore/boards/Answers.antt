@@ -1,7 +1,7 @@
 use Rattle.std.proofs.Common.{sym}
 use Rattle.std.proofs.lemmas.List.FromFn.{length-map-range_with_len}
 use Rattle.journal.specs.Journals.{kept_at}
-use Rattle.journal.proofs.store.JournalStore.boards.Goals as goal
+use Rattle.journal.proofs.memory.JournalStore.boards.Goals as goal
 
 pub returns : goal.returns
 returns g c =

@@ -1,7 +1,7 @@
 use Rattle.std.proofs.Common.{set, ap, ◌∙◌, arith}
 use Rattle.journal.specs.Journals.{first_entry}
 use Rattle.journal.proofs.Fresh.{fresh_more}
-use Rattle.journal.proofs.store.clear.Goals as goal
+use Rattle.journal.proofs.memory.clear.Goals as goal
 
 pub loop-board-preserved : goal.loop-board-preserved
 loop-board-preserved g c =

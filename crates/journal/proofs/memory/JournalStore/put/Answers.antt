@@ -4,7 +4,7 @@ use Rattle.journal.specs.Pointers.{Traced}
 use Rattle.journal.specs.declared.entry.Entry.{Entry}
 use Rattle.journal.specs.declared.entry.EntryKind.TheVariants.{Put}
 use Rattle.journal.proofs.Pointers.{traced, traced_call, put_range}
-use Rattle.journal.proofs.store.JournalStore.put.Goals as goal
+use Rattle.journal.proofs.memory.JournalStore.put.Goals as goal
 
 pub returns-in-Ok : goal.returns-in-Ok
 returns-in-Ok g c =
