@@ -12,6 +12,6 @@ pub record Vectors : Type 0 where
   -- new: 19
   pub new : made.spare ≡ 19
   -- after a put: 18
-  pub after-put : put.spare ≡ 18
+  pub after_put : put.spare ≡ 18
   -- after keep: 18
   pub after_keep : (keep_after put 0).spare ≡ 18
