@@ -9,7 +9,7 @@ use Rattle.protocol.specs.Marks.{ask_label, in_cohort, need}
 use Rattle.protocol.specs.Rounds.{able, has_answered, says_yes}
 use Rattle.protocol.specs.Rows.{Answered, Back, Free, Gathering, Phase, Round, Save, held}
 use Rattle.protocol.specs.Runs.{Step, World, after, after_step, run, told_by}
-use Rattle.protocol.specs.Turns.{Answer, Checkpoint, Deliver, Do, Plan, Refusal, Restart, Rollback, Send, SetWilling}
+use Rattle.protocol.specs.Turns.{Checkpoint, Deliver, Do, Plan, Refusal, Restart, Rollback, Send, SetWilling}
 use Rattle.protocol.specs.Turns.{Stop, Turn, Work, WrongTable, asked_when, decided_when, delivered, heard_when}
 use Rattle.protocol.specs.Turns.{most_words, nobody_below, refuse_if, settled, settled_by, taken_off, turn_plan}
 use Rattle.protocol.specs.Wire.{Ask, Decision, Message, Note, Reply, Word, earliest, goes, is_control, is_word, post}
@@ -132,7 +132,7 @@ module _ {A : Type 0} (n : ℕ) (rules : Rules A) (wear : ℕ) where
     skip true k o h = record { few' = few }
     skip false k o h = record { few' = (h refl).few' }
 
-    plain : (k : Answer) (ds : List Effect) → all_sends ds ≡ 0 → Few (Do k ds)
+    plain : (k : Option Note) (ds : List Effect) → all_sends ds ≡ 0 → Few (Do k ds)
     plain k ds e = record { few' = (let f = effects_words s τ ds in omega arith) }
 
     took : (p q : ℕ) (o : Option Message) → Few (taken_off n rules wear s p q o)

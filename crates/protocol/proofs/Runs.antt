@@ -21,7 +21,7 @@ use Rattle.protocol.specs.Rows.{Answered, Back, Free, Gathering, Phase, Role, Ro
 use Rattle.protocol.specs.Rows.{new_marks, new_row, with_role}
 use Rattle.protocol.specs.Runs.{Step, World, after, after_step, new_world, run, told_by}
 use Rattle.protocol.specs.Tables.{changed}
-use Rattle.protocol.specs.Turns.{Answer, Checkpoint, Deliver, Do, Plan, Refusal, Refuse, Restart, Rollback, Send}
+use Rattle.protocol.specs.Turns.{Checkpoint, Deliver, Do, Plan, Refusal, Refuse, Restart, Rollback, Send}
 use Rattle.protocol.specs.Turns.{SetWilling, Stop, Turn, Work, WrongTable, asked_when, decided_when, delivered}
 use Rattle.protocol.specs.Turns.{heard_when, is_open, most_words, moved, nobody_below, plan_of, refuse_if, settled, settled_by}
 use Rattle.protocol.specs.Turns.{started, store_answers, taken_off, turn_plan}
@@ -292,7 +292,7 @@ module _ {A : Type 0} (n : ℕ) (rules : Rules A) (wear : ℕ) where
     refused true k o g = record { sound = inv; in_vain = λ e. absurd (false≢true e); takes = tt }
     refused false k o g = let f = g refl in record { sound = f.sound; in_vain = f.in_vain; takes = f.takes }
 
-    done : (k : Answer) (es : List Effect) → Fine h₀ s h es → Good (Do k es)
+    done : (k : Option Note) (es : List Effect) → Fine h₀ s h es → Good (Do k es)
     done k es f = record { sound = f.sound; in_vain = f.in_vain; takes = f.takes }
 
     -- one effect, which asks nothing of the store and agrees no round

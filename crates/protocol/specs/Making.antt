@@ -4,8 +4,8 @@ use Rattle.records.specs.Rules.{Rules}
 use Rattle.store.specs.Meaning.{Kept, Meaning}
 use Rattle.protocol.specs.Rows.{new_row}
 use Rattle.protocol.specs.Effects.{State}
-use Rattle.turns.specs.declared.answer.MakingRefusal.{MakingRefusal}
-use Rattle.turns.specs.declared.answer.MakingRefusal.TheVariants.{BadCount, BadStore, WrongTable}
+use Rattle.turns.specs.declared.making.MakingRefusal.{MakingRefusal}
+use Rattle.turns.specs.declared.making.MakingRefusal.TheVariants.{BadCount, BadStore, WrongTable}
 
 -- the most boards of a loom
 abbrev pub most_boards : ℕ

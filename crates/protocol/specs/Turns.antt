@@ -1,5 +1,5 @@
 -- The eight turns: their refusals in order, and what a taken one does.
-use Rattle.std.specs.Prelude.{ℕ, zero, suc, Bool, true, false, cond, not, ◌&&◌, ◌||◌, List, [], ◌∷◌, Some, None, Option, ◌==◌, nat_le, nat_lt}
+use Rattle.std.specs.Prelude.{ℕ, zero, suc, Bool, true, false, cond, not, ◌&&◌, ◌||◌, List, [], ◌∷◌, Some, None, Ok, Err, Option, ◌==◌, nat_le, nat_lt}
 use Rattle.records.specs.Rules.{Rules}
 use Rattle.store.specs.Meaning.{Answer as StoreAnswer}
 use Rattle.protocol.specs.Rows.{Round, Save, Back, Phase, Free, Gathering, Answered, held}
@@ -11,23 +11,23 @@ use Rattle.protocol.specs.Effects.{Counts, Answers, Decides, Carries, act, acts,
 pub use Rattle.turns.specs.declared.turn.Turn.{Turn}
 pub use Rattle.turns.specs.declared.turn.Turn.TheVariants.{Work, Send, Deliver, Checkpoint, Rollback, Stop, Restart}
 pub use Rattle.turns.specs.declared.turn.Turn.TheVariants.{SetWilling}
-pub use Rattle.turns.specs.declared.answer.Answer.{Answer}
-pub use Rattle.turns.specs.declared.answer.Answer.TheVariants.{Taken, Delivered, Refused}
+pub use Rattle.turns.specs.Numbers.{Answer}
 pub use Rattle.turns.specs.declared.answer.Refusal.{Refusal}
 pub use Rattle.turns.specs.declared.answer.Refusal.TheVariants.{WrongTable, NoBoard, SameBoard, Stopped, Lost, Held}
 pub use Rattle.turns.specs.declared.answer.Refusal.TheVariants.{NoLabel, WireFull, NoMessage, RoundOpen, Unwilling}
 pub use Rattle.turns.specs.declared.answer.Refusal.TheVariants.{NoSpare, NotStopped, BadFlag}
 
--- What a turn comes to: tests that refuse, in their order, and at their end the effects.
+-- What a turn comes to: tests that refuse, in their order, and at their end the message that is delivered, if one is, and
+-- the effects.
 pub data Plan : Type 0 where
   Refuse : Refusal → Plan
-  Do : Answer → List Effect → Plan
+  Do : Option Note → List Effect → Plan
   refuse_if : Bool → Refusal → Plan → Plan
 
 abbrev pub answer_of : Plan → Answer
-answer_of (Refuse why) = Refused why
-answer_of (Do answer es) = answer
-answer_of (refuse_if test why plan) = cond test (Refused why) (answer_of plan)
+answer_of (Refuse why) = Err why
+answer_of (Do delivered es) = Ok delivered
+answer_of (refuse_if test why plan) = cond test (Err why) (answer_of plan)
 
 -- no board below k is in the set
 abbrev pub nobody_below : ℕ → (ℕ → Bool) → Bool
@@ -89,10 +89,10 @@ module _ {R : Type 0} (n : ℕ) (rules : Rules R) (wear : ℕ) where
 
   abbrev pub taken_off : State R → ℕ → ℕ → Option Message → Plan
   taken_off s p q None = Refuse NoMessage
-  taken_off s p q (Some (post from to note)) = Do (Delivered note) (delivered s p q note)
+  taken_off s p q (Some (post from to note)) = Do (Some note) (delivered s p q note)
 
   abbrev pub started : State R → Round → ℕ → Plan
-  started s round p = Do Taken (Starts round p ∷ settled n (act n rules wear s (Starts round p)) p)
+  started s round p = Do None (Starts round p ∷ settled n (act n rules wear s (Starts round p)) p)
 
   -- the turns, with a state table of the right size
   abbrev pub turn_plan : State R → Turn → Plan
@@ -100,7 +100,7 @@ module _ {R : Type 0} (n : ℕ) (rules : Rules R) (wear : ℕ) where
       refuse_if (not (nat_lt p n)) NoBoard (
       refuse_if (not (s.rows p).up) Stopped (
       refuse_if (s.rows p).lost Lost (
-      Do Taken (Works p w ∷ []))))
+      Do None (Works p w ∷ []))))
   turn_plan s (Send p q w) =
       refuse_if (not (nat_lt p n && nat_lt q n)) NoBoard (
       refuse_if (p == q) SameBoard (
@@ -109,7 +109,7 @@ module _ {R : Type 0} (n : ℕ) (rules : Rules R) (wear : ℕ) where
       refuse_if (held (s.rows p).role.phase) Held (
       refuse_if (nat_le last_label (s.rows p).count) NoLabel (
       refuse_if (nat_le most_words (tally is_word s.wire)) WireFull (
-      Do Taken (Sends p q w ∷ []))))))))
+      Do None (Sends p q w ∷ []))))))))
   turn_plan s (Deliver p q) =
       refuse_if (not (nat_lt p n && nat_lt q n)) NoBoard (
       refuse_if (p == q) SameBoard (
@@ -132,15 +132,15 @@ module _ {R : Type 0} (n : ℕ) (rules : Rules R) (wear : ℕ) where
   turn_plan s (Stop p) =
       refuse_if (not (nat_lt p n)) NoBoard (
       refuse_if (not (s.rows p).up) Stopped (
-      Do Taken (Flags p false true (s.rows p).willing true ∷ [])))
+      Do None (Flags p false true (s.rows p).willing true ∷ [])))
   turn_plan s (Restart p) =
       refuse_if (not (nat_lt p n)) NoBoard (
       refuse_if (s.rows p).up NotStopped (
-      Do Taken (Flags p true (s.rows p).lost (s.rows p).willing false ∷ [])))
+      Do None (Flags p true (s.rows p).lost (s.rows p).willing false ∷ [])))
   turn_plan s (SetWilling p b) =
       refuse_if (not (nat_lt p n)) NoBoard (
       refuse_if (nat_lt 1 b) BadFlag (
-      Do Taken (Flags p (s.rows p).up (s.rows p).lost (b == 1) false ∷ [])))
+      Do None (Flags p (s.rows p).up (s.rows p).lost (b == 1) false ∷ [])))
 
   -- a turn that is handed a state table of k records
   abbrev pub plan_of : State R → ℕ → Turn → Plan

@@ -10,7 +10,7 @@ use crate::pick::next_pick;
 use std::num::{f32_from_bits_with_nan, f32_to_bits_with_nan};
 
 // as it is kept and handed on: tension and length as their 32 bits
-#[derive(Clone, Copy, PartialEq, Eq, Debug)]
+#[derive(Clone, Copy, Default, PartialEq, Eq, Debug)]
 pub struct Feed {
     pub pick: u32,
     pub tension: u32,
@@ -38,24 +38,26 @@ fn halved(x: f32) -> f32
     x * 0.5
 }
 
-impl Measures {
-    fn of_bits(tension: u32, length: u32) -> Measures
-        ensures { result ≡ measured tension length }
-    {
+impl From<Feed> for Measures {
+    ghost from_gives = { λ f m. m ≡ measured f.tension f.length };
+
+    fn from(kept: Feed) -> Measures {
         Measures {
-            tension: f32_from_bits_with_nan(tension),
-            length: f32_from_bits_with_nan(length),
+            tension: f32_from_bits_with_nan(kept.tension),
+            length: f32_from_bits_with_nan(kept.length),
         }
     }
+}
 
+impl Measures {
     // The length grows by n quarters.
     fn feed(self, n: u32) -> Measures
         requires { n < 1024 }
         ensures { result ≡ fed self n }
     {
         Measures {
-            tension: self.tension,
             length: self.length + quarters(n),
+            ..self
         }
     }
 
@@ -66,7 +68,7 @@ impl Measures {
     {
         Measures {
             tension: halved(self.tension) + n as f32,
-            length: self.length,
+            ..self
         }
     }
 
@@ -86,15 +88,11 @@ impl Part for Feed {
     ghost rules = { feed_rules };
 
     fn first() -> Feed {
-        Feed {
-            pick: 0,
-            tension: 0,
-            length: 0,
-        }
+        Feed::default()
     }
 
     fn worked(self, word: Word) -> Feed {
-        let measures = Measures::of_bits(self.tension, self.length);
+        let measures = Measures::from(self);
         measures.feed(word % 1024).keep(next_pick(self.pick))
     }
 
@@ -103,7 +101,7 @@ impl Part for Feed {
     }
 
     fn heard(self, _from: Board, word: Word) -> Feed {
-        let measures = Measures::of_bits(self.tension, self.length);
+        let measures = Measures::from(self);
         measures.pull(word % 256).keep(self.pick)
     }
 }

@@ -27,12 +27,8 @@ pub fn step<P: Part>(state: P, event: Event) -> P
 {
     match event {
         Event::Worked { word } => state.worked(word),
-        Event::Sent { to, label: _, word } => state.sent(to, word),
-        Event::Heard {
-            from,
-            label: _,
-            word,
-        } => state.heard(from, word),
+        Event::Sent { to, word, .. } => state.sent(to, word),
+        Event::Heard { from, word, .. } => state.heard(from, word),
     }
 }
 
@@ -40,11 +36,7 @@ pub fn step<P: Part>(state: P, event: Event) -> P
 pub fn replay_from<P: Part>(start: P, events: &[Event]) -> P
     ensures { result ≡ fold (stepped P.Part.rules) start events.now }
 {
-    let mut state = start;
-    for event in events {
-        state = step(state, *event);
-    }
-    state
+    events.iter().fold(start, |state, event| step(state, *event))
 }
 
 // The record that the rules make of a story.

@@ -5,11 +5,14 @@
 // harness board and of a feed drive are written.
 #![tactic(auto)]
 
+ghost use Rattle.std.specs.Prelude.{◌≤◌};
+
 use anyhow::anyhow;
 use records::event::Event;
 use records::feed::Feed;
 use records::harness::Harness;
 use records::part::{Part, replay_from};
+use std::str::Split;
 
 #[derive(Drop)]
 struct Story {
@@ -29,13 +32,35 @@ impl Story {
 
     // Takes a line of the story.
     fn add(&mut self, line: &str) -> anyhow::Result<()> {
-        let (word, rest) = first_word(line);
-        match word {
-            "worked" => self.events.push(worked(rest)?)?,
-            "sent" => self.events.push(sent(rest)?)?,
-            "heard" => self.events.push(heard(rest)?)?,
-            "harness" => self.harness = harness(rest)?,
-            "feed" => self.feed = feed(rest)?,
+        let mut words = line.split(' ');
+        match words.next().unwrap_or("") {
+            "worked" => self.events.push(Event::Worked {
+                word: decimal(&mut words)?,
+            })?,
+            "sent" => self.events.push(Event::Sent {
+                to: decimal(&mut words)?,
+                label: decimal(&mut words)?,
+                word: decimal(&mut words)?,
+            })?,
+            "heard" => self.events.push(Event::Heard {
+                from: decimal(&mut words)?,
+                label: decimal(&mut words)?,
+                word: decimal(&mut words)?,
+            })?,
+            "harness" => {
+                self.harness = Harness {
+                    pick: decimal(&mut words)?,
+                    lifted: decimal(&mut words)?,
+                    sum: bits(&mut words)?,
+                }
+            }
+            "feed" => {
+                self.feed = Feed {
+                    pick: decimal(&mut words)?,
+                    tension: bits(&mut words)?,
+                    length: bits(&mut words)?,
+                }
+            }
             _ => return Err(anyhow!("no such line")),
         }
         Ok(())
@@ -54,62 +79,19 @@ impl Story {
     }
 }
 
-fn first_word(line: &str) -> (&str, &str) {
-    match line.split_once(' ') {
-        Some((word, rest)) => (word, rest),
-        None => (line, ""),
-    }
+// The next word as a number; a line that ends before it has an empty word there.
+fn number(words: &mut Split<'_, char>, radix: u32) -> anyhow::Result<u32>
+    requires { (2 ≤ radix) × (radix ≤ 36) }
+{
+    Ok(u32::from_str_radix(words.next().unwrap_or(""), radix)?)
 }
 
-fn decimal(line: &str) -> anyhow::Result<(u32, &str)> {
-    let (word, rest) = first_word(line);
-    Ok((word.parse::<u32>()?, rest))
+fn decimal(words: &mut Split<'_, char>) -> anyhow::Result<u32> {
+    number(words, 10)
 }
 
-fn bits(line: &str) -> anyhow::Result<(u32, &str)> {
-    let (word, rest) = first_word(line);
-    Ok((u32::from_str_radix(word, 16)?, rest))
-}
-
-fn worked(line: &str) -> anyhow::Result<Event> {
-    let (word, _) = decimal(line)?;
-    Ok(Event::Worked { word })
-}
-
-// The other board, the label and the word.
-fn said(line: &str) -> anyhow::Result<(u32, u32, u32)> {
-    let (board, rest) = decimal(line)?;
-    let (label, rest) = decimal(rest)?;
-    let (word, _) = decimal(rest)?;
-    Ok((board, label, word))
-}
-
-fn sent(line: &str) -> anyhow::Result<Event> {
-    let (to, label, word) = said(line)?;
-    Ok(Event::Sent { to, label, word })
-}
-
-fn heard(line: &str) -> anyhow::Result<Event> {
-    let (from, label, word) = said(line)?;
-    Ok(Event::Heard { from, label, word })
-}
-
-fn harness(line: &str) -> anyhow::Result<Harness> {
-    let (pick, rest) = decimal(line)?;
-    let (lifted, rest) = decimal(rest)?;
-    let (sum, _) = bits(rest)?;
-    Ok(Harness { pick, lifted, sum })
-}
-
-fn feed(line: &str) -> anyhow::Result<Feed> {
-    let (pick, rest) = decimal(line)?;
-    let (tension, rest) = bits(rest)?;
-    let (length, _) = bits(rest)?;
-    Ok(Feed {
-        pick,
-        tension,
-        length,
-    })
+fn bits(words: &mut Split<'_, char>) -> anyhow::Result<u32> {
+    number(words, 16)
 }
 
 fn run(rt: &HostRuntime) -> anyhow::Result<()> {

@@ -1,14 +1,13 @@
 -- The numbers of answers and refusals.
-use Rattle.std.specs.Prelude.{ℕ}
+use Rattle.std.specs.Prelude.{ℕ, Some, None, Ok, Err, Option, Result}
 use Rattle.turns.specs.Notes.{kind_of}
-use Rattle.turns.specs.declared.answer.Answer.{Answer}
-use Rattle.turns.specs.declared.answer.Answer.TheVariants.{Taken, Delivered, Refused}
+use Rattle.turns.specs.declared.message.Note.{Note}
 use Rattle.turns.specs.declared.answer.Refusal.{Refusal}
 use Rattle.turns.specs.declared.answer.Refusal.TheVariants.{WrongTable, NoBoard, SameBoard, Stopped, Lost, Held}
 use Rattle.turns.specs.declared.answer.Refusal.TheVariants.{NoLabel, WireFull, NoMessage, RoundOpen, Unwilling}
 use Rattle.turns.specs.declared.answer.Refusal.TheVariants.{NoSpare, NotStopped, BadFlag}
-use Rattle.turns.specs.declared.answer.MakingRefusal.{MakingRefusal}
-use Rattle.turns.specs.declared.answer.MakingRefusal.TheVariants as making
+use Rattle.turns.specs.declared.making.MakingRefusal.{MakingRefusal}
+use Rattle.turns.specs.declared.making.MakingRefusal.TheVariants as making
 
 abbrev pub refusal_number : Refusal → ℕ
 refusal_number NoBoard = 1
@@ -31,14 +30,18 @@ making_number making.BadCount = 14
 making_number making.WrongTable = 15
 making_number making.BadStore = 16
 
+-- What a turn is answered with: it is taken, and may have taken a message off the wire, on which the receiver acted; or it
+-- is refused.
+abbrev pub Answer : Type 0
+Answer = Result (Option Note) Refusal
+
 -- 0 for a turn that is taken
 abbrev pub answer_number : Answer → ℕ
-answer_number Taken = 0
-answer_number (Delivered note) = 0
-answer_number (Refused why) = refusal_number why
+answer_number (Ok delivered) = 0
+answer_number (Err why) = refusal_number why
 
 -- the kind of the message that was delivered, else 0
 abbrev pub answer_kind : Answer → ℕ
-answer_kind Taken = 0
-answer_kind (Delivered note) = kind_of note
-answer_kind (Refused why) = 0
+answer_kind (Ok None) = 0
+answer_kind (Ok (Some note)) = kind_of note
+answer_kind (Err why) = 0

@@ -2,6 +2,7 @@
 #![tactic(auto)]
 
 pub mod answer;
+pub mod making;
 pub mod message;
 pub mod round;
 pub mod turn;

@@ -6,7 +6,7 @@ use crate::round::Round;
 use records::event::{Board, Label, Word};
 
 // what a message says
-#[derive(Clone, Copy)]
+#[derive(Clone, Copy, PartialEq, Eq, Debug)]
 pub enum Note {
     // a word, under its sender's label
     Word { label: Label, word: Word },
@@ -18,7 +18,7 @@ pub enum Note {
     Decision { round: Round, agreed: bool },
 }
 
-#[derive(Clone, Copy)]
+#[derive(Clone, Copy, PartialEq, Eq, Debug)]
 pub struct Message {
     pub from: Board,
     pub to: Board,
@@ -31,13 +31,33 @@ impl Note {
         ensures { result ≡ kind_of self }
     {
         match self {
-            Note::Word { label: _, word: _ } => 1,
-            Note::Ask { round, label: _ } => match round {
-                Round::Save => 2,
-                Round::Back => 7,
-            },
-            Note::Reply { yes } => { if yes { 3 } else { 4 } }
-            Note::Decision { round, agreed } => decision_kind(round, agreed),
+            Note::Word { .. } => 1,
+            Note::Ask {
+                round: Round::Save,
+                ..
+            } => 2,
+            Note::Reply { yes: true } => 3,
+            Note::Reply { yes: false } => 4,
+            Note::Decision {
+                round: Round::Save,
+                agreed: true,
+            } => 5,
+            Note::Decision {
+                round: Round::Save,
+                agreed: false,
+            } => 6,
+            Note::Ask {
+                round: Round::Back,
+                ..
+            } => 7,
+            Note::Decision {
+                round: Round::Back,
+                agreed: true,
+            } => 8,
+            Note::Decision {
+                round: Round::Back,
+                agreed: false,
+            } => 9,
         }
     }
 
@@ -46,13 +66,8 @@ impl Note {
         ensures { result ≡ label_of self }
     {
         match self {
-            Note::Word { label, word: _ } => label,
-            Note::Ask { round: _, label } => label,
-            Note::Reply { yes: _ } => 0,
-            Note::Decision {
-                round: _,
-                agreed: _,
-            } => 0,
+            Note::Word { label, .. } | Note::Ask { label, .. } => label,
+            Note::Reply { .. } | Note::Decision { .. } => 0,
         }
     }
 
@@ -61,24 +76,8 @@ impl Note {
         ensures { result ≡ word_of self }
     {
         match self {
-            Note::Word { label: _, word } => word,
-            Note::Ask { round: _, label: _ } => 0,
-            Note::Reply { yes: _ } => 0,
-            Note::Decision {
-                round: _,
-                agreed: _,
-            } => 0,
+            Note::Word { word, .. } => word,
+            _ => 0,
         }
-    }
-}
-
-fn decision_kind(round: Round, agreed: bool) -> u32
-    ensures { result ≡ kind_of (Note.Decision round agreed) }
-{
-    match (round, agreed) {
-        (Round::Save, true) => 5,
-        (Round::Save, false) => 6,
-        (Round::Back, true) => 8,
-        (Round::Back, false) => 9,
     }
 }

@@ -1,14 +1,14 @@
 // The two rounds, and how far a board is in one.
 
 // a checkpoint round (saving) or a rollback round (going back)
-#[derive(Clone, Copy, PartialEq, Eq)]
+#[derive(Clone, Copy, PartialEq, Eq, Debug)]
 pub enum Round {
     Save,
     Back,
 }
 
 // A board that is not free is held in its round.
-#[derive(Clone, Copy, PartialEq, Eq)]
+#[derive(Clone, Copy, PartialEq, Eq, Debug)]
 pub enum Phase {
     // in no round
     Free,
