@@ -4,6 +4,7 @@ use mathlib.Core.Path.{fun_ext}
 use Rattle.std.proofs.ByRecursion.{All-append, All-weaker}
 use Rattle.std.proofs.lemmas.Bool.{cases_Bool, cases_lt, eqb-false, false≢true, ne_eqb, true≢false}
 use Rattle.std.proofs.lemmas.Bool.Decides.{eqb_tells}
+use Rattle.std.proofs.Math.Nat.{eq-zero-or-pos}
 use Rattle.std.specs.List.{AllByRecursion}
 use Rattle.records.specs.Rules.{Rules}
 use Rattle.records.specs.Stories.{Story}
@@ -15,7 +16,7 @@ use Rattle.protocol.specs.Rounds.{row_carried}
 use Rattle.protocol.specs.Rows.{Answered, Back, Free, Marks, Role, Round, Row, Save, gathering, held}
 use Rattle.protocol.specs.Tables.{changed}
 use Rattle.protocol.specs.Wire.{Ask, Decision, Message, Reply, Word, post, posts, tally}
-use Rattle.protocol.proofs.Labels.{NoLabelOrphan, Rising, heard_from, last, last_max, made, rising_right, zero_or}
+use Rattle.protocol.proofs.Labels.{NoLabelOrphan, Rising, heard_from, last, last_max, made, rising_right}
 use Rattle.protocol.proofs.Backwards.{retell}
 use Rattle.protocol.proofs.Stored.{carried_stored, keep_taken, size_carried, stored_carried, stored_standing}
 use Rattle.protocol.proofs.Stored.{stored_at}
@@ -214,7 +215,7 @@ module _ {R : Type 0} (n : ℕ) (rules : Rules R) (wear : ℕ) (s : State R) (τ
         (λ i e. refl)
 
     p_no_dec : (b : ℕ) → tally (decisions p b) s.wire ≡ 0
-    p_no_dec b = elim (zero_or (tally (decisions p b) s.wire)) [
+    p_no_dec b = elim (eq-zero-or-pos (tally (decisions p b) s.wire)) [
       | inl z ↦ z
       | inr z ↦ absurd (true≢false (sym hold ∙ ap held (inv.frame.dec_free p b z)))
     ]

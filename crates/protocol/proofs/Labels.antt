@@ -2,6 +2,7 @@
 use Rattle.std.proofs.Common.{◌≡◌, ℕ, zero, suc, ◌<◌, ◌≤◌, max, cond, eqb, ◌⊎◌, [], ◌∷◌, ◌++◌, sym, refl, ap, ◌∙◌, subst, inl, inr, arith}
 use Rattle.std.proofs.lemmas.Bool.{eq-eqb}
 use Rattle.std.proofs.lemmas.Bool.Decides.{eqb_tells}
+use Rattle.std.proofs.Math.Nat.{eq-zero-or-pos}
 use Rattle.records.specs.Rules.{Rules, stepped}
 use Rattle.records.specs.Stories.{Story, Told}
 use Rattle.records.specs.declared.event.Event.{Event}
@@ -68,10 +69,6 @@ pub pick_zero : (a : ℕ) → pick a 0 ≡ a
 pick_zero zero = refl
 pick_zero (suc a) = refl
 
-pub zero_or : (a : ℕ) → (a ≡ 0) ⊎ (0 < a)
-zero_or zero = inl refl
-zero_or (suc a) = inr (omega arith)
-
 -- the labels that f shows rise
 abbrev pub Rising : (Event → ℕ) → Story → Type 0
 Rising f [] = Unit {0}
@@ -120,7 +117,7 @@ module _ (f : Event → ℕ) where
   ]
 
   pub first_le_last : (s : Story) → Rising f s → first f s ≤ last f s
-  first_le_last s r = elim (zero_or (first f s)) [
+  first_le_last s r = elim (eq-zero-or-pos (first f s)) [
     | inl a ↦ omega arith
     | inr b ↦ in_le_last (first f s) s r b (first_in s b)
   ]
@@ -152,9 +149,9 @@ module _ (f : Event → ℕ) where
   rising_cross l k (e ∷ s) t r p o (inr h) i = rising_cross l k s t r.1 p o h i
 
   pub last_max : (s t : Story) → Rising f (s ++ t) → last f (s ++ t) ≡ max (last f s) (last f t)
-  last_max s t r = elim (zero_or (last f s)) [
+  last_max s t r = elim (eq-zero-or-pos (last f s)) [
     | inl a ↦ grind (arith, last_append s t)
-    | inr p ↦ elim (zero_or (last f t)) [
+    | inr p ↦ elim (eq-zero-or-pos (last f t)) [
       | inl c ↦ grind (arith, last_append s t, pick_or (last f s) (last f t))
       | inr o ↦ let x = rising_cross (last f s) (last f t) s t r p o (last_in s p) (last_in t o) in
           grind (arith, last_append s t, pick_or (last f s) (last f t))

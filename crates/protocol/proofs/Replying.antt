@@ -4,6 +4,7 @@ use mathlib.Core.Path.{fun_ext}
 use Rattle.std.proofs.ByRecursion.{All-append}
 use Rattle.std.proofs.lemmas.Bool.{and_cases, and_parts, and_right, cases_Bool, cases_eq, eq-eqb, false≢true, leb-false, ltb-false, ne_eqb, true≢false}
 use Rattle.std.proofs.lemmas.Bool.Decides.{eqb_tells, nat_tests}
+use Rattle.std.proofs.Math.Nat.{eq-zero-or-pos}
 use Rattle.std.specs.List.{AllByRecursion}
 use Rattle.records.specs.Rules.{Rules}
 use Rattle.records.specs.Stories.{Story}
@@ -14,7 +15,6 @@ use Rattle.protocol.specs.Marks.{need}
 use Rattle.protocol.specs.Rounds.{role_counted}
 use Rattle.protocol.specs.Rows.{Answered, Back, Marks, Role, Round, Row, Save, gathering, held, with_role}
 use Rattle.protocol.specs.Wire.{Ask, Message, Reply, earliest, post, tally, without}
-use Rattle.protocol.proofs.Labels.{zero_or}
 use Rattle.protocol.proofs.Backwards.{retell}
 use Rattle.protocol.proofs.Stored.{stored_at}
 use Rattle.protocol.proofs.Wires.{TakenOff, all_rest, all_taken, asks, at, at_is, at_not_from, at_not_to, decisions}
@@ -398,7 +398,7 @@ module _ {R : Type 0} (n : ℕ) (rules : Rules R) (wear : ℕ) (s : State R) (τ
         let g' : (s.rows x).role.answer ≡ false = sym (count_answer x ∙ rw (ne_eqb x q nq) refl) ∙ g in
         elim (h g') [
           | inr i ↦ inr (no_stays _ i)
-          | inl i ↦ elim (zero_or (tally (replies false x (s.rows x).role.asker) (without p q s.wire))) [
+          | inl i ↦ elim (eq-zero-or-pos (tally (replies false x (s.rows x).role.asker) (without p q s.wire))) [
             | inr o ↦ inl o
             | inl o ↦ inr (let c = count_replies false x (s.rows x).role.asker in
                 let u : (q ≡ (s.rows x).role.asker) × (y ≡ false) =

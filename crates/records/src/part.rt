@@ -36,7 +36,9 @@ pub fn step<P: Part>(state: P, event: Event) -> P
 pub fn replay_from<P: Part>(start: P, events: &[Event]) -> P
     ensures { result ≡ fold (stepped P.Part.rules) start events.now }
 {
-    events.iter().fold(start, |state, event| step(state, *event))
+    events
+        .iter()
+        .fold(start, |state, event| step(state, *event))
 }
 
 // The record that the rules make of a story.
