@@ -17,15 +17,7 @@ use Rattle.protocol.proofs.Labels.{made}
 
 -- one event more at the front
 abbrev pub add_own : History → ℕ → Event → History
-add_own h p e = record {
-  own = changed h.own p (e ∷ h.own p);
-  kept = h.kept;
-  drawn = h.drawn;
-  due = h.due;
-  stage = h.stage;
-  joined = h.joined;
-  agreed = h.agreed;
-}
+add_own h p e = record h { own = changed h.own p (e ∷ h.own p) }
 
 abbrev pub retell : {R : Type 0} → State R → History → Effect → History
 retell s h (Works p w) = add_own h p (Worked w)
@@ -43,14 +35,10 @@ retell s h (Carries round agreed p) = tell s h (Carries round agreed p)
 
 -- a history as it is told, read backwards
 abbrev pub backwards : History → History
-backwards h = record {
+backwards h = record h {
   own = λ i. reverse (h.own i);
   kept = λ i. reverse (h.kept i);
   drawn = λ i. reverse (h.drawn i);
-  due = h.due;
-  stage = h.stage;
-  joined = h.joined;
-  agreed = h.agreed;
 }
 
 pub reverse-cond : (b : Bool) (x y : Story) → reverse (cond b x y) ≡ cond b (reverse x) (reverse y)
