@@ -1,4 +1,4 @@
-pub mod Pieces
+pub mod Hex
 pub mod Writing
 pub mod Reports
 pub mod Room

@@ -1,9 +1,9 @@
 -- The bytes that a line holds, and the pieces of lines.
-use Rattle.std.specs.Prelude.{ℕ, ◌+◌, ◌/◌, ◌%◌, cond, List, [], ◌∷◌, take, nat_lt}
-use Rattle.report.specs.declared.line.Line.{Line}
+use Rattle.std.specs.Prelude.{ℕ, ◌+◌, ◌/◌, ◌%◌, cond, List, [], ◌∷◌, nat_lt}
+use Rattle.report.specs.declared.line.Text.{Text}
 
-abbrev pub text : Line → List ℕ
-text line = take line.len line.bytes
+abbrev pub text : {CAP : ℕ} → Text CAP → List ℕ
+text line = line.bytes.bytes
 
 -- a hexadecimal digit, 0 to 9 and a to f
 abbrev pub hex_digit : ℕ → ℕ

@@ -33,6 +33,15 @@ abbrev pub after : {V E : Type 0} → Result V E → ℕ → List ℕ → List �
 after (Ok v) at line out = written out at line
 after (Err e) at line out = out
 
+-- the place after a line, where it was put
+abbrev pub put : Bool → ℕ → Result ℕ WriteRefusal
+put fits end = cond fits (Ok end) (Err NoRoom)
+
+-- a refusal with the writer as it was
+abbrev pub handed_back : {V W : Type 0} → W → Result V WriteRefusal → Result V (NotWritten W)
+handed_back w (Ok v) = Ok v
+handed_back w (Err why) = refused why w
+
 -- at most 4,096 turn lines
 abbrev pub turn_tried : TurnLines → List ℕ → List ℕ → Result TurnLines (NotWritten TurnLines)
 turn_tried w out line = tried (nat_le 4096 w.turns) (fits w.at line out) w (record { at = w.at + length line; turns = w.turns + 1 })

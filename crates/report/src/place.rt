@@ -1,17 +1,19 @@
 // Bytes put at a place of lent memory.
-ghost use Rattle.std.specs.Prelude.{◌≡◌, ◌+◌, length, nat_le};
-ghost use Rattle.report.specs.Writing.{written, chosen};
+ghost use Rattle.std.specs.Prelude.{◌≡◌, ◌+◌, length};
+ghost use Rattle.report.specs.Writers.{fits, after, put};
 
-// Writes the bytes where they fit; else answers false, and writes nothing.
-pub fn put_bytes(out: &mut [u8], at: usize, bytes: &[u8]) -> bool
-    ensures answer { result ≡ nat_le (at + length bytes.now) (length out.old) }
-    ensures after { out.new ≡ chosen result (written out.old at bytes.now) out.old }
+use crate::writer::WriteRefusal;
+
+// Writes the bytes where they fit, and answers with the place after them; else writes nothing.
+pub fn put_bytes(out: &mut [u8], at: usize, bytes: &[u8]) -> Result<usize, WriteRefusal>
+    ensures answer { result ≡ put (fits at bytes.now out.old) (at + length bytes.now) }
+    ensures memory { out.new ≡ after result at bytes.now out.old }
 {
-    let n = bytes.len();
-    if at > out.len() || n > out.len() - at {
-        return false;
-    }
-    let end = at + n;
+    let room = out.len();
+    let end = at
+        .checked_add(bytes.len())
+        .filter(|end| *end <= room)
+        .ok_or(WriteRefusal::NoRoom)?;
     out[at..end].copy_from_slice(bytes);
-    true
+    Ok(end)
 }

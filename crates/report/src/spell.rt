@@ -1,32 +1,33 @@
 // How a record is spelled in a board line.
-ghost use Rattle.std.specs.Prelude.{◌≡◌, ℕ, ◌≤◌, List, length};
+ghost use Rattle.std.specs.Prelude.{◌≡◌, ℕ, List};
 ghost use Rattle.report.specs.Lines.{harness_text, feed_text, shown};
 ghost use Rattle.report.specs.Texts.{text};
 
-use crate::line::Line;
+use crate::line::Text;
 use records::feed::Feed;
 use records::harness::Harness;
+use std::num::f32_from_bits_with_nan;
+
+pub type Spelling = Text<30>;
 
 pub trait Spelled: Copy {
     // the bytes that spell a record
     ghost spelled: { Self → List ℕ };
 
-    fn spell(self) -> Line
-        ensures written { text result ≡ spelled self }
-        ensures short { length (text result) ≤ 30 };
+    fn spell(self) -> Spelling
+        ensures { text result ≡ spelled self };
 }
 
 impl Spelled for Harness {
     ghost spelled = { harness_text };
 
-    fn spell(self) -> Line {
-        let mut line = Line::new();
-        line.push_decimal(self.pick as u64);
-        line.push(b" ");
-        line.push_decimal(self.lifted as u64);
-        line.push(b" ");
-        line.push_hex(self.sum);
-        line
+    fn spell(self) -> Spelling {
+        Spelling::new()
+            .and_decimal(self.pick)
+            .and(" ")
+            .and_decimal(self.lifted)
+            .and(" ")
+            .and_hex(self.sum)
     }
 }
 
@@ -34,7 +35,7 @@ impl Spelled for Harness {
 fn shown_bits(bits: u32) -> u32
     ensures { result ≡ shown bits }
 {
-    if bits % 0x8000_0000 > 0x7f80_0000 {
+    if f32_from_bits_with_nan(bits).is_nan() {
         0x7fc0_0000
     } else {
         bits
@@ -44,13 +45,12 @@ fn shown_bits(bits: u32) -> u32
 impl Spelled for Feed {
     ghost spelled = { feed_text };
 
-    fn spell(self) -> Line {
-        let mut line = Line::new();
-        line.push_decimal(self.pick as u64);
-        line.push(b" ");
-        line.push_hex(shown_bits(self.tension));
-        line.push(b" ");
-        line.push_hex(shown_bits(self.length));
-        line
+    fn spell(self) -> Spelling {
+        Spelling::new()
+            .and_decimal(self.pick)
+            .and(" ")
+            .and_hex(shown_bits(self.tension))
+            .and(" ")
+            .and_hex(shown_bits(self.length))
     }
 }

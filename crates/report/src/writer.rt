@@ -4,8 +4,10 @@ ghost use Rattle.std.specs.Prelude.{◌≡◌, ℕ, ◌+◌, ◌≤◌, List, []
 ghost use Rattle.report.specs.Lines.{turn_line, board_line, end_line};
 ghost use Rattle.report.specs.Reports.{Answer, TurnsWritten, BoardsWritten, answered, told};
 ghost use Rattle.report.specs.Reports.{TurnFollows, BoardFollows, EndFollows, TurnFits, BoardFits, EndFits};
-ghost use Rattle.report.specs.Writers.{begun, turn_tried, boards_begun, board_tried, end_tried, after, refusal_number};
+ghost use Rattle.report.specs.Writers.{begun, turn_tried, boards_begun, board_tried, end_tried, after, handed_back, refusal_number};
+ghost use Rattle.report.specs.Texts.{text};
 
+use crate::line::Line;
 use crate::lines::{board_line, end_line, turn_line};
 use crate::place::put_bytes;
 use crate::spell::Spelled;
@@ -18,20 +20,17 @@ const MAX_BOARDS: u32 = 19;
 
 #[derive(Clone, Copy, PartialEq, Eq, Debug)]
 pub enum WriteRefusal {
-    // turn line 4,097 or board line 20
-    TooManyLines,
     // the line does not fit the memory
-    NoRoom,
+    NoRoom = 26,
+    // turn line 4,097 or board line 20
+    TooManyLines = 27,
 }
 
 impl WriteRefusal {
     pub fn number(self) -> u32
         ensures { result ≡ refusal_number self }
     {
-        match self {
-            WriteRefusal::TooManyLines => 27,
-            WriteRefusal::NoRoom => 26,
-        }
+        self as u32
     }
 }
 
@@ -40,6 +39,14 @@ impl WriteRefusal {
 pub struct NotWritten<W> {
     pub refusal: WriteRefusal,
     pub writer: W,
+}
+
+impl<W: Drop> From<NotWritten<W>> for WriteRefusal {
+    ghost from_gives = { λ e why. why ≡ e.refusal };
+
+    fn from(e: NotWritten<W>) -> WriteRefusal {
+        e.refusal
+    }
 }
 
 // turn lines are written: where the next line goes, and how many there are
@@ -73,33 +80,17 @@ impl TurnLines {
         TurnLines { at: 0, turns: 0 }
     }
 
-    fn try_turn(
-        self,
-        out: &mut [u8],
-        answer: u32,
-        kind: u32,
-    ) -> Result<TurnLines, NotWritten<TurnLines>>
-        ensures answer { result ≡ turn_tried self out.old (turn_line (self.turns + 1) answer kind) }
-        ensures memory { out.new ≡ after result self.at (turn_line (self.turns + 1) answer kind) out.old }
+    fn add_turn(&self, out: &mut [u8], answer: u32, kind: u32) -> Result<TurnLines, WriteRefusal>
+        ensures answer { handed_back self.now result ≡ turn_tried self.now out.old (turn_line (self.now.turns + 1) answer kind) }
+        ensures memory { out.new ≡ after result self.now.at (turn_line (self.now.turns + 1) answer kind) out.old }
     {
         if self.turns >= MAX_TURNS {
-            return Err(NotWritten {
-                refusal: WriteRefusal::TooManyLines,
-                writer: self,
-            });
+            return Err(WriteRefusal::TooManyLines);
         }
         let turns = self.turns + 1;
         let line = turn_line(turns, answer, kind);
-        if !put_bytes(out, self.at, line.as_slice()) {
-            return Err(NotWritten {
-                refusal: WriteRefusal::NoRoom,
-                writer: self,
-            });
-        }
-        Ok(TurnLines {
-            at: self.at + line.as_slice().len(),
-            turns,
-        })
+        let at = put_bytes(out, self.at, line.as_slice())?;
+        Ok(TurnLines { at, turns })
     }
 
     // The next turn's line; the writer numbers them from 1. With it, what is written goes on being
@@ -115,7 +106,11 @@ impl TurnLines {
         ensures follows { TurnFollows self out.old (answered answer kind) result out.new }
         ensures fits { TurnFits self out.old (answered answer kind) result }
     {
-        self.try_turn(out, answer, kind)
+        self.add_turn(out, answer, kind)
+            .map_err(|refusal| NotWritten {
+                refusal,
+                writer: self,
+            })
     }
 
     // No turn line follows.
@@ -133,31 +128,14 @@ impl TurnLines {
 }
 
 impl BoardLines {
-    fn try_board<R: Spelled>(
-        self,
-        out: &mut [u8],
-        board: u32,
-        state: BoardState,
-        of: R,
-    ) -> Result<BoardLines, NotWritten<BoardLines>>
-        ensures answer { result ≡ board_tried self out.old (board_line board state (R.Spelled.spelled of)) }
-        ensures memory { out.new ≡ after result self.at (board_line board state (R.Spelled.spelled of)) out.old }
-        ensures short { length (R.Spelled.spelled of) ≤ 30 }
+    fn add_board(&self, out: &mut [u8], line: &Line) -> Result<BoardLines, WriteRefusal>
+        ensures answer { handed_back self.now result ≡ board_tried self.now out.old (text line.now) }
+        ensures memory { out.new ≡ after result self.now.at (text line.now) out.old }
     {
-        let line = board_line(board, state, of);
         if self.boards >= MAX_BOARDS {
-            return Err(NotWritten {
-                refusal: WriteRefusal::TooManyLines,
-                writer: self,
-            });
+            return Err(WriteRefusal::TooManyLines);
         }
-        if !put_bytes(out, self.at, line.as_slice()) {
-            return Err(NotWritten {
-                refusal: WriteRefusal::NoRoom,
-                writer: self,
-            });
-        }
-        let at = self.at + line.as_slice().len();
+        let at = put_bytes(out, self.at, line.as_slice())?;
         Ok(BoardLines {
             at,
             turns: self.turns,
@@ -180,22 +158,10 @@ impl BoardLines {
         ensures fits { BoardFits self out.old (told board state (R.Spelled.spelled of)) result }
         ensures short { length (R.Spelled.spelled of) ≤ 30 }
     {
-        self.try_board(out, board, state, of)
-    }
-
-    fn try_end(self, out: &mut [u8]) -> Result<Report, NotWritten<BoardLines>>
-        ensures answer { result ≡ end_tried self out.old (end_line self.turns self.offset) }
-        ensures memory { out.new ≡ after result self.at (end_line self.turns self.offset) out.old }
-    {
-        let line = end_line(self.turns, self.offset);
-        if !put_bytes(out, self.at, line.as_slice()) {
-            return Err(NotWritten {
-                refusal: WriteRefusal::NoRoom,
-                writer: self,
-            });
-        }
-        Ok(Report {
-            length: self.at + line.as_slice().len(),
+        let line = board_line(board, state, of);
+        self.add_board(out, &line).map_err(|refusal| NotWritten {
+            refusal,
+            writer: self,
         })
     }
 
@@ -206,7 +172,13 @@ impl BoardLines {
         ensures follows { EndFollows self out.old result out.new }
         ensures fits { EndFits self out.old result }
     {
-        self.try_end(out)
+        let line = end_line(self.turns, self.offset);
+        put_bytes(out, self.at, line.as_slice())
+            .map(|length| Report { length })
+            .map_err(|refusal| NotWritten {
+                refusal,
+                writer: self,
+            })
     }
 }
 

@@ -1,12 +1,10 @@
+use Rattle.std.proofs.Common.{rules}
 use Rattle.report.proofs.Room.{end_fits}
 use Rattle.report.proofs.Reports.{end_follows}
 use Rattle.report.proofs.writer.BoardLines.end.Goals as goal
 
-pub returns : goal.returns
-returns c = record {
-  answer = c.try_end.ensures.answer;
-  memory = c.try_end.ensures.memory;
-  follows = end_follows c.args.self c.args.out.now c.try_end.result c.try_end.new.out
-      c.try_end.ensures.answer c.try_end.ensures.memory;
-  fits = end_fits c.args.self c.args.out.now c.try_end.result c.try_end.ensures.answer;
-}
+pub returns-clause-follows : goal.returns-clause-follows
+returns-clause-follows c = end_follows _ _ _ _ (search rules) (search rules)
+
+pub returns-clause-fits : goal.returns-clause-fits
+returns-clause-fits c = end_fits _ _ _ (search rules)

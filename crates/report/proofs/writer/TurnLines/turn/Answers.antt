@@ -1,13 +1,10 @@
-use Rattle.report.specs.Reports.{answered}
+use Rattle.std.proofs.Common.{rules}
 use Rattle.report.proofs.Room.{turn_fits}
 use Rattle.report.proofs.Reports.{turn_follows}
 use Rattle.report.proofs.writer.TurnLines.turn.Goals as goal
 
-pub returns : goal.returns
-returns c = record {
-  answer = c.try_turn.ensures.answer;
-  memory = c.try_turn.ensures.memory;
-  follows = turn_follows c.args.self c.args.out.now (answered c.args.answer c.args.kind) c.try_turn.result c.try_turn.new.out
-      c.try_turn.ensures.answer c.try_turn.ensures.memory;
-  fits = turn_fits c.args.self c.args.out.now (answered c.args.answer c.args.kind) c.try_turn.result c.try_turn.ensures.answer;
-}
+pub returns-clause-follows : goal.returns-clause-follows
+returns-clause-follows c = turn_follows _ _ _ _ _ (search rules) (search rules)
+
+pub returns-clause-fits : goal.returns-clause-fits
+returns-clause-fits c = turn_fits _ _ (record { number = c.args.answer; kind = c.args.kind }) _ (search rules)
