@@ -1,17 +1,15 @@
 -- A line more carries a report on. Assumes nothing.
-use Rattle.std.proofs.Common.{◌≡◌, ℕ, ◌+◌, ◌<◌, ◌≤◌, Bool, true, false, cond, leb, List, [], ◌∷◌, ◌++◌, length, get_or, take, drop, Ok, Err, Result, sym, refl, ap, ◌∙◌, subst, add-zero, arith}
-use Rattle.std.proofs.lemmas.List.{append-nil, append_assoc, length-append, length_push, take_at, drop_at, length-drop, get_or-take, get_or-append-add, flat_map_more}
-use Rattle.std.proofs.lemmas.Bool.{leb-true}
+use Rattle.std.proofs.Common.{◌≡◌, ℕ, ◌+◌, ◌<◌, Bool, true, false, leb, List, [], ◌∷◌, ◌++◌, length, get_or, drop, Ok, Err, Result, sym, refl, ap, ◌∙◌, subst, arith}
+use Rattle.std.proofs.lemmas.List.{append-nil, append_assoc, length-append, take_at, drop_at, get_or-take, flat_map_more}
 use Rattle.std.proofs.Math.Seq.{get_or-append_seam}
 use Rattle.report.specs.Lines.{turn_line, board_line, end_line}
 use Rattle.report.specs.Reports.{Answer, BoardFacts, turn_lines_from, turn_lines, board_lines, report}
 use Rattle.report.specs.Reports.{Begins, TurnsWritten, BoardsWritten, TurnFollows, BoardFollows, EndFollows}
-use Rattle.report.specs.Writers.{begun, refused, tried, fits, after, turn_tried, boards_begun, board_tried, end_tried}
+use Rattle.report.specs.Writers.{begun, tried, fits, after, turn_tried, boards_begun, board_tried, end_tried}
 use Rattle.report.specs.declared.writer.BoardLines.{BoardLines}
 use Rattle.report.specs.declared.writer.NotWritten.{NotWritten}
 use Rattle.report.specs.declared.writer.Report.{Report}
 use Rattle.report.specs.declared.writer.TurnLines.{TurnLines}
-use Rattle.report.specs.declared.writer.WriteRefusal.TheVariants.{NoRoom}
 use Rattle.report.specs.Writing.{written}
 
 -- what stood at the front, and the line behind it

@@ -1,33 +1,21 @@
 -- 48,000 bytes suffice for a report. Assumes nothing.
-use Rattle.std.proofs.Common.{◌≡◌, ℕ, ◌+◌, ◌*◌, ◌^◌, ◌<◌, ◌≤◌, Bool, true, false, cond, leb, List, [], ◌∷◌, length, is_ok, Ok, decimal, Result, ap, ◌∙◌, arith}
+use Rattle.std.proofs.Common.{◌≡◌, ℕ, ◌+◌, ◌*◌, ◌<◌, ◌≤◌, Bool, true, false, leb, List, [], ◌∷◌, length, is_ok, Result, refl, arith}
 use Rattle.std.specs.List.{AllByRecursion}
 use Rattle.std.proofs.lemmas.Fmt.{length-decimal-le}
 use Rattle.std.proofs.lemmas.List.{length-append}
 use Rattle.std.proofs.lemmas.Bool.{le-leb, lt-leb}
-use Rattle.records.specs.declared.feed.Feed.{Feed}
-use Rattle.records.specs.declared.harness.Harness.{Harness}
-use Rattle.report.specs.Lines.{harness_text, feed_text, state_number, turn_line, board_line, end_line}
+use Rattle.report.specs.Lines.{state_number, turn_line, board_line, end_line}
 use Rattle.report.specs.Reports.{Answer, BoardFacts, turn_lines_from, turn_lines, board_lines}
 use Rattle.report.specs.Reports.{SmallAnswer, ShortBoard, TurnFits, BoardFits, EndFits}
-use Rattle.report.specs.Writers.{tried, refused, fits, turn_tried, board_tried, end_tried}
+use Rattle.report.specs.Writers.{tried, fits, turn_tried, board_tried, end_tried}
 use Rattle.report.specs.declared.state.BoardState.{BoardState}
-use Rattle.report.specs.declared.state.BoardState.TheVariants.{Free, Held, Lost, Stopped}
 use Rattle.report.specs.declared.writer.BoardLines.{BoardLines}
 use Rattle.report.specs.declared.writer.NotWritten.{NotWritten}
 use Rattle.report.specs.declared.writer.Report.{Report}
 use Rattle.report.specs.declared.writer.TurnLines.{TurnLines}
-use Rattle.report.specs.declared.writer.WriteRefusal.TheVariants.{NoRoom}
-
--- at most k digits
-digits : (k n : ℕ) → 0 < k → n < 10 ^ k → n < 2 ^ 32 → length (decimal n) ≤ k
-digits k n h l w = length-decimal-le k n h l (omega arith)
 
 turn_short : (n a k : ℕ) → n < 10000 → a < 100 → k < 10 → length (turn_line n a k) ≤ 10
-turn_short n a k hn ha hk =
-    let dn = digits 4 n (omega arith) (omega arith) (omega arith) in
-    let da = digits 2 a (omega arith) (omega arith) (omega arith) in
-    let dk = digits 1 k (omega arith) (omega arith) (omega arith) in
-    simp length-append (omega arith)
+turn_short n a k hn ha hk = simp length-append (omega (arith, length-decimal-le 4 n, length-decimal-le 2 a, length-decimal-le 1 k))
 
 turns_short : (n : ℕ) (ts : List Answer) → AllByRecursion SmallAnswer ts → n + length ts ≤ 4096 → length (turn_lines_from n ts) ≤ 10 * length ts
 turns_short n [] s h = omega arith
@@ -37,17 +25,12 @@ turns_short n (t ∷ ts) s h =
     omega (arith, length-append (turn_line (n + 1) t.number t.kind) (turn_lines_from (n + 1) ts))
 
 state_small : (s : BoardState) → state_number s < 10
-state_small Free = omega arith
-state_small Held = omega arith
-state_small Lost = omega arith
-state_small Stopped = omega arith
+state_small s = grind arith
 
 board_short : (b : BoardFacts) → ShortBoard b → length (board_line b.board b.state b.spelling) ≤ 38
 board_short b s =
-    let db = digits 2 b.board (omega arith) (omega (arith, s.0)) (omega (arith, s.0)) in
     let small = state_small b.state in
-    let ds = digits 1 (state_number b.state) (omega arith) (omega arith) (omega arith) in
-    simp length-append (omega (arith, s.1))
+    simp length-append (omega (arith, s.0, s.1, length-decimal-le 2 b.board, length-decimal-le 1 (state_number b.state)))
 
 boards_short : (bs : List BoardFacts) → AllByRecursion ShortBoard bs → length (board_lines bs) ≤ 38 * length bs
 boards_short [] s = omega arith
@@ -57,27 +40,12 @@ boards_short (b ∷ bs) s =
     omega (arith, length-append (board_line b.board b.state b.spelling) (board_lines bs))
 
 end_short : (n o : ℕ) → n ≤ 4096 → o ≤ 40960 → length (end_line n o) ≤ 15
-end_short n o hn ho =
-    let dn = digits 4 n (omega arith) (omega arith) (omega arith) in
-    let do' = digits 5 o (omega arith) (omega arith) (omega arith) in
-    simp length-append (omega arith)
-
--- how long a record's spelling is
-pub harness_short : (r : Harness) → r.pick < 2 ^ 32 → r.lifted < 2 ^ 32 → length (harness_text r) ≤ 30
-harness_short r hp hl =
-    let dp = digits 10 r.pick (omega arith) (omega arith) hp in
-    let dl = digits 10 r.lifted (omega arith) (omega arith) hl in
-    simp length-append (omega arith)
-
-pub feed_short : (r : Feed) → r.pick < 2 ^ 32 → length (feed_text r) ≤ 30
-feed_short r hp =
-    let dp = digits 10 r.pick (omega arith) (omega arith) hp in
-    simp length-append (omega arith)
+end_short n o hn ho = simp length-append (omega (arith, length-decimal-le 4 n, length-decimal-le 5 o))
 
 -- a line that fits is taken
 ok_tried : {V W : Type 0} (full fit : Bool) (w : W) (next : V) (r : Result V (NotWritten W)) → full ≡ false → fit ≡ true
     → r ≡ tried full fit w next → is_ok r ≡ true
-ok_tried full fit w next r f t e = ap is_ok e ∙ (λ i. is_ok (tried (f i) (t i) w next))
+ok_tried full fit w next r f t e = rw (e, f, t)
 
 pub turn_fits : (w : TurnLines) (out : List ℕ) (a : Answer) (r : Result TurnLines (NotWritten TurnLines))
     → r ≡ turn_tried w out (turn_line (w.turns + 1) a.number a.kind) → TurnFits w out a r
@@ -107,5 +75,5 @@ end_fits w out r e ts bs h small few shorts less room =
     let boards = boards_short bs shorts in
     let last = end_short w.turns w.offset (omega (arith, h.turns)) (omega (arith, h.offset, turns)) in
     let long = length-append (turn_lines ts) (board_lines bs) in
-    let fit : fits w.at line out ≡ true = le-leb (w.at + length line) (length out) (omega (arith, h.at, turns, boards, last, long)) in
-    ap is_ok e ∙ (λ i. is_ok {T = Report} {E = NotWritten BoardLines} (cond (fit i) (Ok (record { length = w.at + length line })) (refused NoRoom w)))
+    ok_tried false (fits w.at line out) w _ r refl
+    (le-leb (w.at + length line) (length out) (omega (arith, h.at, turns, boards, last, long))) e

@@ -1,6 +1,6 @@
 // A line that is being made, or a piece of one. Its pieces are pushed and not written by `write!`,
 // which doesn't say when it succeeds.
-ghost use Rattle.std.specs.Prelude.{◌≡◌, ◌+◌, ◌≤◌, [], ◌++◌, length, IsUtf8};
+ghost use Rattle.std.specs.Prelude.{◌≡◌, ◌+◌, ◌≤◌, [], ◌++◌, length};
 ghost use Rattle.report.specs.Texts.{text, hex_of};
 
 use arrayvec::ArrayString;
@@ -70,8 +70,7 @@ impl<const CAP: usize> Text<CAP> {
 
 #[tactic(auto, using(crate::proofs::Hex::hex_bytes))]
 fn hex_digits(bits: u32) -> [u8; 8]
-    ensures value { result ≡ hex_of bits }
-    ensures utf8 { IsUtf8 result }
+    ensures { result ≡ hex_of bits }
 {
     let mut digits = [0; 8];
     hex::encode_to_slice(bits.to_be_bytes(), &mut digits).unwrap();

@@ -5,26 +5,18 @@
 use records::feed::Feed;
 use records::harness::Harness;
 use report::state::BoardState;
-use report::writer::{BoardLines, NotWritten, TurnLines};
+use report::writer::{BoardLines, TurnLines, WriteRefusal};
 
-// What was made, or the refusal's number.
-fn taken<V, W: Drop>(res: Result<V, NotWritten<W>>) -> Result<V, u32> {
-    match res {
-        Ok(made) => Ok(made),
-        Err(NotWritten { refusal, writer: _ }) => Err(refusal.number()),
-    }
-}
-
-fn turn_lines(out: &mut [u8], answers: &[(u32, u32)]) -> Result<TurnLines, u32> {
+fn turn_lines(out: &mut [u8], answers: &[(u32, u32)]) -> Result<TurnLines, WriteRefusal> {
     let mut writer = TurnLines::begin();
     for (answer, kind) in answers {
-        writer = taken(writer.turn(out, *answer, *kind))?;
+        writer = writer.turn(out, *answer, *kind)?;
     }
     Ok(writer)
 }
 
 // A save that ends in a stop.
-fn save(out: &mut [u8]) -> Result<usize, u32> {
+fn save(out: &mut [u8]) -> Result<usize, WriteRefusal> {
     let answers = [
         (0, 0),
         (0, 0),
@@ -42,61 +34,65 @@ fn save(out: &mut [u8]) -> Result<usize, u32> {
         lifted: 5,
         sum: 9,
     };
-    let writer = taken(writer.board(out, 0, BoardState::Stopped, first))?;
+    let writer = writer.board(out, 0, BoardState::Stopped, first)?;
     let second = Harness {
         pick: 0,
         lifted: 0,
         sum: 9,
     };
-    let writer = taken(writer.board(out, 1, BoardState::Free, second))?;
-    Ok(taken(writer.end(out))?.length())
+    let writer = writer.board(out, 1, BoardState::Free, second)?;
+    Ok(writer.end(out)?.length())
 }
 
 // One turn, and a feed drive with a NaN and a negative number.
-fn small(out: &mut [u8]) -> Result<usize, u32> {
+fn small(out: &mut [u8]) -> Result<usize, WriteRefusal> {
     let writer = turn_lines(out, &[(12, 0)])?.boards();
     let drive = Feed {
         pick: 10,
         tension: 0xffff_ffff,
         length: 0xbf80_0000,
     };
-    let writer = taken(writer.board(out, 0, BoardState::Lost, drive))?;
-    Ok(taken(writer.end(out))?.length())
+    let writer = writer.board(out, 0, BoardState::Lost, drive)?;
+    Ok(writer.end(out)?.length())
 }
 
-fn many_boards(mut writer: BoardLines, out: &mut [u8], count: u32) -> Result<BoardLines, u32> {
+fn many_boards(
+    mut writer: BoardLines,
+    out: &mut [u8],
+    count: u32,
+) -> Result<BoardLines, WriteRefusal> {
     let most = Harness {
         pick: 0xffff_ffff,
         lifted: 0xffff_ffff,
         sum: 0xffff_ffff,
     };
     for board in 0..count {
-        writer = taken(writer.board(out, board, BoardState::Stopped, most))?;
+        writer = writer.board(out, board, BoardState::Stopped, most)?;
     }
     Ok(writer)
 }
 
 // So many turn lines and board lines, each as long as can be.
-fn large(out: &mut [u8], turns: u32, boards: u32) -> Result<usize, u32> {
+fn large(out: &mut [u8], turns: u32, boards: u32) -> Result<usize, WriteRefusal> {
     let mut writer = TurnLines::begin();
     for _ in 0..turns {
-        writer = taken(writer.turn(out, 52, 9))?;
+        writer = writer.turn(out, 52, 9)?;
     }
     let writer = many_boards(writer.boards(), out, boards)?;
-    Ok(taken(writer.end(out))?.length())
+    Ok(writer.end(out)?.length())
 }
 
-fn shown(res: Result<usize, u32>) -> (&'static str, usize) {
+fn shown(res: Result<usize, WriteRefusal>) -> (&'static str, usize) {
     match res {
         Ok(length) => ("length", length),
-        Err(number) => ("refused", number as usize),
+        Err(refusal) => ("refused", refusal.number() as usize),
     }
 }
 
 fn tell(
     rt: &HostRuntime,
     size: usize,
-    res: Result<usize, u32>,
+    res: Result<usize, WriteRefusal>,
     memory: &[u8],
 ) -> anyhow::Result<()> {
     let (word, n) = shown(res);
