@@ -105,5 +105,5 @@ end_follows w out (Ok v) out' answer memory ts bs h =
       first = first_in out' ts bs front;
     }
 
-pub begun-written : (out : List ℕ) → TurnsWritten begun out []
-begun-written out = record { at = refl; turns = refl; front = record { within = omega arith; front = refl } }
+pub begun_written : (out : List ℕ) → TurnsWritten begun out []
+begun_written out = record { at = refl; turns = refl; front = record { within = omega arith; front = refl } }

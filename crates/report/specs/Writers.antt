@@ -33,10 +33,6 @@ abbrev pub after : {V E : Type 0} → Result V E → ℕ → List ℕ → List �
 after (Ok v) at line out = written out at line
 after (Err e) at line out = out
 
--- the place after a line, where it was put
-abbrev pub put : Bool → ℕ → Result ℕ WriteRefusal
-put fits end = cond fits (Ok end) (Err NoRoom)
-
 -- a refusal with the writer as it was
 abbrev pub handed_back : {V W : Type 0} → W → Result V WriteRefusal → Result V (NotWritten W)
 handed_back w (Ok v) = Ok v

@@ -72,6 +72,7 @@ pub struct Report {
 }
 
 impl TurnLines {
+    #[tactic(auto, using(crate::proofs::Reports::begun_written))]
     // A new report, at the front of the memory.
     pub fn begin() -> TurnLines
         ensures value { result ≡ begun }
@@ -113,6 +114,7 @@ impl TurnLines {
             })
     }
 
+    #[tactic(auto, using(crate::proofs::Reports::boards_follow))]
     // No turn line follows.
     pub fn boards(self) -> BoardLines
         ensures value { result ≡ boards_begun self }
@@ -138,9 +140,8 @@ impl BoardLines {
         let at = put_bytes(out, self.at, line.as_slice())?;
         Ok(BoardLines {
             at,
-            turns: self.turns,
             boards: self.boards + 1,
-            offset: self.offset,
+            ..*self
         })
     }
 
