@@ -49,6 +49,13 @@ impl<W: Drop> From<NotWritten<W>> for WriteRefusal {
     }
 }
 
+// What was made, or the refusal and the writer as it was.
+fn or_back<V, W: Drop>(made: Result<V, WriteRefusal>, writer: W) -> Result<V, NotWritten<W>>
+    ensures { result ≡ handed_back writer made }
+{
+    made.map_err(|refusal| NotWritten { refusal, writer })
+}
+
 // turn lines are written: where the next line goes, and how many there are
 #[derive(Drop)]
 pub struct TurnLines {
@@ -107,11 +114,7 @@ impl TurnLines {
         ensures follows { TurnFollows self out.old (answered answer kind) result out.new }
         ensures fits { TurnFits self out.old (answered answer kind) result }
     {
-        self.add_turn(out, answer, kind)
-            .map_err(|refusal| NotWritten {
-                refusal,
-                writer: self,
-            })
+        or_back(self.add_turn(out, answer, kind), self)
     }
 
     #[tactic(auto, using(crate::proofs::Reports::boards_follow))]
@@ -160,10 +163,7 @@ impl BoardLines {
         ensures short { length (R.Spelled.spelled of) ≤ 30 }
     {
         let line = board_line(board, state, of);
-        self.add_board(out, &line).map_err(|refusal| NotWritten {
-            refusal,
-            writer: self,
-        })
+        or_back(self.add_board(out, &line), self)
     }
 
     // The last line, which points back to the first board line.
@@ -174,12 +174,8 @@ impl BoardLines {
         ensures fits { EndFits self out.old result }
     {
         let line = end_line(self.turns, self.offset);
-        put_bytes(out, self.at, line.as_slice())
-            .map(|length| Report { length })
-            .map_err(|refusal| NotWritten {
-                refusal,
-                writer: self,
-            })
+        let put = put_bytes(out, self.at, line.as_slice());
+        or_back(put.map(|length| Report { length }), self)
     }
 }
 
