@@ -1,6 +1,7 @@
 // Reports: turn lines, then board lines, then the last line.
 #![tactic(auto)]
 
+mod digits;
 pub mod line;
 pub mod lines;
 mod place;

@@ -1,8 +1,8 @@
 // A line that is being made, or a piece of one. Its pieces are pushed and not written by `write!`,
 // which doesn't say when it succeeds.
-ghost use Rattle.std.specs.Prelude.{◌≡◌, ◌+◌, ◌≤◌, [], ◌++◌, length};
-ghost use Rattle.report.specs.Texts.{text, hex_of};
+ghost use Rattle.std.specs.Prelude.{◌≡◌, ◌≤◌, length};
 
+use crate::digits::hex_digits;
 use arrayvec::ArrayString;
 use itoa::{Buffer, Integer};
 use std::str;
@@ -10,11 +10,15 @@ use std::str;
 #[derive(Clone, Copy)]
 pub struct Text<const CAP: usize> {
     bytes: ArrayString<CAP>,
+    ghost fits: { length bytes.bytes ≤ CAP },
 }
 
 pub type Line = Text<96>;
 
 impl<const CAP: usize> Text<CAP> {
+    ghost use Rattle.std.specs.Prelude.{◌+◌, [], ◌++◌};
+    ghost use Rattle.report.specs.Texts.{text, hex_of};
+
     pub fn new() -> Self
         ensures written { text result ≡ [] }
         ensures long { length (text result) ≡ 0 }
@@ -27,14 +31,12 @@ impl<const CAP: usize> Text<CAP> {
     pub fn as_slice(&self) -> &[u8]
         ensures value { result.now ≡ text self.now }
         ensures long { length result.now ≡ length (text self.now) }
-        ensures fits { length result.now ≤ CAP }
     {
         self.bytes.as_str().as_bytes()
     }
 
     pub(crate) fn as_str(&self) -> &str
-        ensures value { result.now ≡ text self.now }
-        ensures fits { length result.now ≤ CAP }
+        ensures { result.now ≡ text self.now }
     {
         self.bytes.as_str()
     }
@@ -66,13 +68,4 @@ impl<const CAP: usize> Text<CAP> {
     {
         self.and(str::from_utf8(&hex_digits(bits)).unwrap())
     }
-}
-
-#[tactic(auto, using(crate::proofs::Hex::hex_bytes))]
-fn hex_digits(bits: u32) -> [u8; 8]
-    ensures { result ≡ hex_of bits }
-{
-    let mut digits = [0; 8];
-    hex::encode_to_slice(bits.to_be_bytes(), &mut digits).unwrap();
-    digits
 }

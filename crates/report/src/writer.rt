@@ -20,10 +20,10 @@ const MAX_BOARDS: u32 = 19;
 
 #[derive(Clone, Copy, PartialEq, Eq, Debug)]
 pub enum WriteRefusal {
-    // the line does not fit the memory
-    NoRoom = 26,
     // turn line 4,097 or board line 20
     TooManyLines = 27,
+    // the line does not fit the memory
+    NoRoom = 26,
 }
 
 impl WriteRefusal {
@@ -79,8 +79,8 @@ pub struct Report {
 }
 
 impl TurnLines {
-    #[tactic(auto, using(crate::proofs::Reports::begun_written))]
     // A new report, at the front of the memory.
+    #[tactic(auto, using(crate::proofs::Reports::begun_written))]
     pub fn begin() -> TurnLines
         ensures value { result ≡ begun }
         ensures follows { (out : List ℕ) → TurnsWritten result out [] }
@@ -117,8 +117,8 @@ impl TurnLines {
         or_back(self.add_turn(out, answer, kind), self)
     }
 
-    #[tactic(auto, using(crate::proofs::Reports::boards_follow))]
     // No turn line follows.
+    #[tactic(auto, using(crate::proofs::Reports::boards_follow))]
     pub fn boards(self) -> BoardLines
         ensures value { result ≡ boards_begun self }
         ensures follows { (out : List ℕ) (ts : List Answer) → TurnsWritten self out ts → BoardsWritten result out ts [] }
