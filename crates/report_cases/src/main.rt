@@ -2,15 +2,23 @@
 // line has reached shows as `#`.
 #![tactic(auto)]
 
+ghost use Rattle.std.specs.Iterator.{IsFinite};
+
 use records::feed::Feed;
 use records::harness::Harness;
 use report::state::BoardState;
 use report::writer::{BoardLines, TurnLines, WriteRefusal};
+use std::{fmt, iter};
 
-fn turn_lines(out: &mut [u8], answers: &[(u32, u32)]) -> Result<TurnLines, WriteRefusal> {
+fn turn_lines<I: Iterator<Item = (u32, u32)>>(
+    out: &mut [u8],
+    answers: I,
+) -> Result<TurnLines, WriteRefusal>
+    requires { I.can_next answers × IsFinite (I.remaining answers) }
+{
     let mut writer = TurnLines::begin();
     for (answer, kind) in answers {
-        writer = writer.turn(out, *answer, *kind)?;
+        writer = writer.turn(out, answer, kind)?;
     }
     Ok(writer)
 }
@@ -28,7 +36,7 @@ fn save(out: &mut [u8]) -> Result<usize, WriteRefusal> {
         (0, 0),
         (3, 0),
     ];
-    let writer = turn_lines(out, &answers)?.boards();
+    let writer = turn_lines(out, answers.into_iter())?.boards();
     let first = Harness {
         pick: 1,
         lifted: 5,
@@ -46,7 +54,7 @@ fn save(out: &mut [u8]) -> Result<usize, WriteRefusal> {
 
 // One turn, and a feed drive with a NaN and a negative number.
 fn small(out: &mut [u8]) -> Result<usize, WriteRefusal> {
-    let writer = turn_lines(out, &[(12, 0)])?.boards();
+    let writer = turn_lines(out, iter::once((12, 0)))?.boards();
     let drive = Feed {
         pick: 10,
         tension: 0xffff_ffff,
@@ -74,42 +82,36 @@ fn many_boards(
 
 // So many turn lines and board lines, each as long as can be.
 fn large(out: &mut [u8], turns: u32, boards: u32) -> Result<usize, WriteRefusal> {
-    let mut writer = TurnLines::begin();
-    for _ in 0..turns {
-        writer = writer.turn(out, 52, 9)?;
-    }
+    let writer = turn_lines(out, iter::repeat_n((52, 9), turns as usize))?;
     let writer = many_boards(writer.boards(), out, boards)?;
     Ok(writer.end(out)?.length())
 }
 
-fn shown(res: Result<usize, WriteRefusal>) -> (&'static str, usize) {
-    match res {
-        Ok(length) => ("length", length),
-        Err(refusal) => ("refused", refusal.number() as usize),
+// What writing a report came to.
+#[derive(Drop)]
+struct Outcome(Result<usize, WriteRefusal>);
+
+impl fmt::Display for Outcome {
+    fn fmt<W: fmt::Write>(&self, f: &mut fmt::Formatter<W>) -> fmt::Result {
+        match self.0 {
+            Ok(length) => write!(f, "length {length}"),
+            Err(refusal) => write!(f, "refused {}", refusal.number()),
+        }
     }
 }
 
-fn tell(
-    rt: &HostRuntime,
-    size: usize,
-    res: Result<usize, WriteRefusal>,
-    memory: &[u8],
-) -> anyhow::Result<()> {
-    let (word, n) = shown(res);
-    println!(rt; "memory {size}: {word} {n}")?;
+fn tell(rt: &HostRuntime, outcome: Outcome, memory: &[u8]) -> anyhow::Result<()> {
     let text = String::from_utf8_lossy(rt.alloc(), memory)?;
-    println!(rt; "{text}")?;
+    println!(rt; "memory {}: {outcome}\n{text}", memory.len())?;
     Ok(())
 }
 
 fn run(rt: &HostRuntime) -> anyhow::Result<()> {
     let mut memory = vec![in rt.alloc(); b'#'; 110]?;
-    let result = save(&mut memory);
-    tell(rt, 110, result, &memory)?;
+    tell(rt, Outcome(save(&mut memory)), &memory)?;
     for size in 0..50 {
         let mut memory = vec![in rt.alloc(); b'#'; size]?;
-        let result = small(&mut memory);
-        tell(rt, size, result, &memory)?;
+        tell(rt, Outcome(small(&mut memory)), &memory)?;
     }
     for (turns, boards, size) in [
         (4096, 19, 48_000),
@@ -121,8 +123,8 @@ fn run(rt: &HostRuntime) -> anyhow::Result<()> {
         (4096, 0, 39_868),
     ] {
         let mut memory = vec![in rt.alloc(); b'#'; size]?;
-        let (word, n) = shown(large(&mut memory, turns, boards));
-        println!(rt; "{turns} turns, {boards} boards, memory {size}: {word} {n}")?;
+        let outcome = Outcome(large(&mut memory, turns, boards));
+        println!(rt; "{turns} turns, {boards} boards, memory {size}: {outcome}")?;
     }
     Ok(())
 }
