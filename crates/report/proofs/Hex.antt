@@ -12,7 +12,8 @@ use Rattle.report.specs.Texts.{hex_digit, hex_of}
 lower_digit : (d : ℕ) → d < 16 → slice_index lower_digits d ≡ hex_digit d
 lower_digit d h = get_or-map-range_with_len hex_digit 0 16 d d 0 h (omega arith)
 
-byte_digits : (m : ℕ) (rest : List ℕ) → encode_lower (m % 256 ∷ rest) ≡ hex_digit (m / 16 % 16) ∷ hex_digit (m % 16) ∷ encode_lower rest
+byte_digits : (m : ℕ) (rest : List ℕ)
+    → encode_lower (m % 256 ∷ rest) ≡ hex_digit (m / 16 % 16) ∷ hex_digit (m % 16) ∷ encode_lower rest
 unfolding encode_with
 byte_digits m rest =
     let high : m % 256 / 16 ≡ m / 16 % 16 = omega arith in
@@ -25,12 +26,18 @@ hex_bytes n =
     let third : n / 0x100_0000 / 16 ≡ n / 0x1000_0000 = omega arith in
     let second : n / 0x1_0000 / 16 ≡ n / 0x10_0000 = omega arith in
     let first : n / 0x100 / 16 ≡ n / 0x1000 = omega arith in
-    rw (byte_digits (n / 0x100_0000), byte_digits (n / 0x1_0000), byte_digits (n / 0x100), byte_digits n, third, second, first)
+    rw (byte_digits (n / 0x100_0000), byte_digits (n / 0x1_0000), byte_digits (n / 0x100), byte_digits n)
+    (rw (third, second, first))
 
-digits_ascii : (ns : List ℕ) → IsAscii (map (λ n. hex_digit (n % 16)) ns)
+abbrev last_digit : ℕ → ℕ
+last_digit n = hex_digit (n % 16)
+
+digits_ascii : (ns : List ℕ) → IsAscii (map last_digit ns)
 digits_ascii [] = IsAscii-nil
-digits_ascii (n ∷ ns) = IsAscii-cons (hex_digit (n % 16)) (map (λ n. hex_digit (n % 16)) ns) (grind (arith, nat_tests)) (digits_ascii ns)
+digits_ascii (n ∷ ns) = IsAscii-cons (last_digit n) (map last_digit ns) (grind (arith, nat_tests)) (digits_ascii ns)
 
 pub hex_utf8 : (n : ℕ) → IsUtf8 (hex_of n)
-hex_utf8 n = IsUtf8-from_ascii (hex_of n)
-    (digits_ascii (n / 0x1000_0000 ∷ n / 0x100_0000 ∷ n / 0x10_0000 ∷ n / 0x1_0000 ∷ n / 0x1000 ∷ n / 0x100 ∷ n / 0x10 ∷ n ∷ []))
+hex_utf8 n =
+    IsUtf8-from_ascii (hex_of n)
+    (digits_ascii
+    (n / 0x1000_0000 ∷ n / 0x100_0000 ∷ n / 0x10_0000 ∷ n / 0x1_0000 ∷ n / 0x1000 ∷ n / 0x100 ∷ n / 0x10 ∷ n ∷ []))

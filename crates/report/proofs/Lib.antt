@@ -1,4 +1,3 @@
 pub mod Hex
-pub mod Writing
 pub mod Reports
 pub mod Room

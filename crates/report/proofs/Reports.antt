@@ -1,5 +1,6 @@
 -- A line more carries a report on. Assumes nothing.
-use Rattle.std.proofs.Common.{◌≡◌, ℕ, ◌+◌, ◌<◌, Bool, true, false, leb, List, [], ◌∷◌, ◌++◌, length, get_or, drop, Ok, Err, Result, sym, refl, ap, ◌∙◌, subst, arith}
+use Rattle.std.proofs.Common.{◌≡◌, ℕ, ◌+◌, ◌<◌, Bool, true, false, leb, List, [], ◌∷◌, ◌++◌, length, get_or, drop}
+use Rattle.std.proofs.Common.{Ok, Err, Result, sym, refl, ap, ◌∙◌, subst, arith}
 use Rattle.std.proofs.lemmas.List.{append-nil, append_assoc, length-append, take_at, drop_at, get_or-take, flat_map_more}
 use Rattle.std.proofs.Math.Seq.{get_or-append_seam}
 use Rattle.report.specs.Lines.{turn_line, board_line, end_line}
@@ -13,7 +14,8 @@ use Rattle.report.specs.declared.writer.TurnLines.{TurnLines}
 use Rattle.report.specs.Writing.{written}
 
 -- what stood at the front, and the line behind it
-begins_more : (out front line : List ℕ) (at : ℕ) → at ≡ length front → Begins out front → Begins (written out at line) (front ++ line)
+begins_more : (out front line : List ℕ) (at : ℕ) → at ≡ length front → Begins out front
+    → Begins (written out at line) (front ++ line)
 begins_more out front line at e b =
     let whole : written out at line ≡ (front ++ line) ++ drop (at + length line) out = rw (e, b.front, append_assoc) in
     record {
@@ -50,7 +52,8 @@ turn_follows w out a (Ok v) out' answer memory ts h =
       front = rw more (begins_more out (turn_lines ts) line w.at h.at h.front);
     })
 
-pub boards_follow : (w : TurnLines) (out : List ℕ) (ts : List Answer) → TurnsWritten w out ts → BoardsWritten (boards_begun w) out ts []
+pub boards_follow : (w : TurnLines) (out : List ℕ) (ts : List Answer) → TurnsWritten w out ts
+    → BoardsWritten (boards_begun w) out ts []
 boards_follow w out ts h =
     let same = append-nil (turn_lines ts) in
     record {
@@ -61,8 +64,8 @@ boards_follow w out ts h =
       front = subst (λ (xs : List ℕ). Begins out xs) (sym same) h.front;
     }
 
-pub board_follows : (w : BoardLines) (out : List ℕ) (b : BoardFacts) (r : Result BoardLines (NotWritten BoardLines)) (out' : List ℕ)
-    → r ≡ board_tried w out (board_line b.board b.state b.spelling)
+pub board_follows : (w : BoardLines) (out : List ℕ) (b : BoardFacts) (r : Result BoardLines (NotWritten BoardLines))
+    (out' : List ℕ) → r ≡ board_tried w out (board_line b.board b.state b.spelling)
     → out' ≡ after r w.at (board_line b.board b.state b.spelling) out → BoardFollows w out b r out'
 board_follows w out b (Err e) out' answer memory ts bs h = tt
 board_follows w out b (Ok v) out' answer memory ts bs h =

@@ -1,5 +1,6 @@
 -- 48,000 bytes suffice for a report. Assumes nothing.
-use Rattle.std.proofs.Common.{◌≡◌, ℕ, ◌+◌, ◌*◌, ◌<◌, ◌≤◌, Bool, true, false, leb, List, [], ◌∷◌, length, is_ok, Result, refl, arith}
+use Rattle.std.proofs.Common.{◌≡◌, ℕ, ◌+◌, ◌*◌, ◌<◌, ◌≤◌, Bool, true, false, leb, List, [], ◌∷◌, length}
+use Rattle.std.proofs.Common.{is_ok, Result, refl, arith}
 use Rattle.std.specs.List.{AllByRecursion}
 use Rattle.std.proofs.lemmas.Fmt.{length-decimal-le}
 use Rattle.std.proofs.lemmas.List.{length-append}
@@ -15,9 +16,11 @@ use Rattle.report.specs.declared.writer.Report.{Report}
 use Rattle.report.specs.declared.writer.TurnLines.{TurnLines}
 
 turn_short : (n a k : ℕ) → n < 10000 → a < 100 → k < 10 → length (turn_line n a k) ≤ 10
-turn_short n a k hn ha hk = simp length-append (omega (arith, length-decimal-le 4 n, length-decimal-le 2 a, length-decimal-le 1 k))
+turn_short n a k hn ha hk =
+    simp length-append (omega (arith, length-decimal-le 4 n, length-decimal-le 2 a, length-decimal-le 1 k))
 
-turns_short : (n : ℕ) (ts : List Answer) → AllByRecursion SmallAnswer ts → n + length ts ≤ 4096 → length (turn_lines_from n ts) ≤ 10 * length ts
+turns_short : (n : ℕ) (ts : List Answer) → AllByRecursion SmallAnswer ts → n + length ts ≤ 4096
+    → length (turn_lines_from n ts) ≤ 10 * length ts
 turns_short n [] s h = omega arith
 turns_short n (t ∷ ts) s h =
     let line = turn_short (n + 1) t.number t.kind (omega arith) s.0.0 s.0.1 in

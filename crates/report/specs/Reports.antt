@@ -1,5 +1,6 @@
 -- Whole reports, and how far a writer has come with one.
-use Rattle.std.specs.Prelude.{◌≡◌, ℕ, ◌+◌, ◌<◌, ◌≤◌, true, List, [], ◌∷◌, ◌++◌, length, take, drop, is_ok, IfOk, Result, slice_index}
+use Rattle.std.specs.Prelude.{◌≡◌, ℕ, ◌+◌, ◌<◌, ◌≤◌, true, List, [], ◌∷◌, ◌++◌, length, take, drop}
+use Rattle.std.specs.Prelude.{is_ok, IfOk, Result, slice_index}
 use Rattle.std.specs.List.{flat_map, AllByRecursion}
 use Rattle.report.specs.Lines.{turn_line, board_line, end_line}
 use Rattle.report.specs.declared.state.BoardState.{BoardState}
@@ -76,7 +77,8 @@ BoardFollows w out b r out' =
     (ts : List Answer) (bs : List BoardFacts) → BoardsWritten w out ts bs → IfOk r (λ v. BoardsWritten v out' ts (bs ++ b ∷ []))
 
 abbrev pub EndFollows : BoardLines → List ℕ → Result Report (NotWritten BoardLines) → List ℕ → Type 0
-EndFollows w out r out' = (ts : List Answer) (bs : List BoardFacts) → BoardsWritten w out ts bs → IfOk r (λ v. ReportWritten v out' ts bs)
+EndFollows w out r out' =
+    (ts : List Answer) (bs : List BoardFacts) → BoardsWritten w out ts bs → IfOk r (λ v. ReportWritten v out' ts bs)
 
 -- Answers and boards as a loom has them: refusals and states of at most two digits and kinds of one; at most 19 boards,
 -- with records of at most 30 bytes.

@@ -12,5 +12,6 @@ hex_digit n = cond (nat_lt n 10) (48 + n) (87 + n)
 -- 32 bits as 8 such digits, the highest first
 abbrev pub hex_of : ℕ → List ℕ
 hex_of n =
-    hex_digit (n / 0x1000_0000 % 16) ∷ hex_digit (n / 0x100_0000 % 16) ∷ hex_digit (n / 0x10_0000 % 16) ∷ hex_digit (n / 0x1_0000 % 16)
-    ∷ hex_digit (n / 0x1000 % 16) ∷ hex_digit (n / 0x100 % 16) ∷ hex_digit (n / 0x10 % 16) ∷ hex_digit (n % 16) ∷ []
+    hex_digit (n / 0x1000_0000 % 16) ∷ hex_digit (n / 0x100_0000 % 16) ∷ hex_digit (n / 0x10_0000 % 16)
+    ∷ hex_digit (n / 0x1_0000 % 16) ∷ hex_digit (n / 0x1000 % 16) ∷ hex_digit (n / 0x100 % 16)
+    ∷ hex_digit (n / 0x10 % 16) ∷ hex_digit (n % 16) ∷ []

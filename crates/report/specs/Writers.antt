@@ -40,7 +40,8 @@ handed_back w (Err why) = refused why w
 
 -- at most 4,096 turn lines
 abbrev pub turn_tried : TurnLines → List ℕ → List ℕ → Result TurnLines (NotWritten TurnLines)
-turn_tried w out line = tried (nat_le 4096 w.turns) (fits w.at line out) w (record { at = w.at + length line; turns = w.turns + 1 })
+turn_tried w out line =
+    tried (nat_le 4096 w.turns) (fits w.at line out) w (record { at = w.at + length line; turns = w.turns + 1 })
 
 -- the board lines begin where the turn lines end
 abbrev pub boards_begun : TurnLines → BoardLines

@@ -4,7 +4,8 @@ ghost use Rattle.std.specs.Prelude.{◌≡◌, ℕ, ◌+◌, ◌≤◌, List, []
 ghost use Rattle.report.specs.Lines.{turn_line, board_line, end_line};
 ghost use Rattle.report.specs.Reports.{Answer, TurnsWritten, BoardsWritten, answered, told};
 ghost use Rattle.report.specs.Reports.{TurnFollows, BoardFollows, EndFollows, TurnFits, BoardFits, EndFits};
-ghost use Rattle.report.specs.Writers.{begun, turn_tried, boards_begun, board_tried, end_tried, after, handed_back, refusal_number};
+ghost use Rattle.report.specs.Writers.{begun, turn_tried, boards_begun, board_tried, end_tried};
+ghost use Rattle.report.specs.Writers.{after, handed_back, refusal_number};
 ghost use Rattle.report.specs.Texts.{text};
 
 use crate::line::Line;
