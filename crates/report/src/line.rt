@@ -1,5 +1,4 @@
-// A line that is being made, or a piece of one. Its pieces are pushed and not written by `write!`,
-// which doesn't say when it succeeds.
+// Text of a line, made piece by piece: what `write!` promises leaves open when it succeeds.
 ghost use Rattle.std.specs.Prelude.{◌≡◌, ◌≤◌, length};
 
 use crate::digits::hex_digits;
@@ -7,12 +6,14 @@ use arrayvec::ArrayString;
 use itoa::{Buffer, Integer};
 use std::str;
 
+// at most CAP bytes, which lie in the value itself
 #[derive(Clone, Copy)]
 pub struct Text<const CAP: usize> {
     bytes: ArrayString<CAP>,
     ghost fits: { length bytes.bytes ≤ CAP },
 }
 
+// a whole line, or the beginning of one
 pub type Line = Text<96>;
 
 impl<const CAP: usize> Text<CAP> {

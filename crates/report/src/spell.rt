@@ -8,6 +8,7 @@ use records::feed::Feed;
 use records::harness::Harness;
 use std::num::f32_from_bits_with_nan;
 
+// a record's part of a board line
 pub type Spelling = Text<30>;
 
 pub trait Spelled: Copy {

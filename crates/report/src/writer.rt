@@ -51,7 +51,7 @@ impl<W: Drop> From<NotWritten<W>> for WriteRefusal {
 }
 
 // What was made, or the refusal and the writer as it was.
-fn or_back<V, W: Drop>(made: Result<V, WriteRefusal>, writer: W) -> Result<V, NotWritten<W>>
+fn hand_back<V, W: Drop>(made: Result<V, WriteRefusal>, writer: W) -> Result<V, NotWritten<W>>
     ensures { result ≡ handed_back writer made }
 {
     made.map_err(|refusal| NotWritten { refusal, writer })
@@ -89,6 +89,7 @@ impl TurnLines {
         TurnLines { at: 0, turns: 0 }
     }
 
+    // Writes the next turn's line. Takes the writer by reference, so that the caller can hand it back.
     fn add_turn(&self, out: &mut [u8], answer: u32, kind: u32) -> Result<TurnLines, WriteRefusal>
         ensures answer { handed_back self.now result ≡ turn_tried self.now out.old (turn_line (self.now.turns + 1) answer kind) }
         ensures memory { out.new ≡ after result self.now.at (turn_line (self.now.turns + 1) answer kind) out.old }
@@ -115,7 +116,7 @@ impl TurnLines {
         ensures follows { TurnFollows self out.old (answered answer kind) result out.new }
         ensures fits { TurnFits self out.old (answered answer kind) result }
     {
-        or_back(self.add_turn(out, answer, kind), self)
+        hand_back(self.add_turn(out, answer, kind), self)
     }
 
     // No turn line follows.
@@ -134,6 +135,7 @@ impl TurnLines {
 }
 
 impl BoardLines {
+    // Writes a board's line, as `add_turn` does a turn's.
     fn add_board(&self, out: &mut [u8], line: &Line) -> Result<BoardLines, WriteRefusal>
         ensures answer { handed_back self.now result ≡ board_tried self.now out.old (text line.now) }
         ensures memory { out.new ≡ after result self.now.at (text line.now) out.old }
@@ -164,7 +166,7 @@ impl BoardLines {
         ensures short { length (R.Spelled.spelled of) ≤ 30 }
     {
         let line = board_line(board, state, of);
-        or_back(self.add_board(out, &line), self)
+        hand_back(self.add_board(out, &line), self)
     }
 
     // The last line, which points back to the first board line.
@@ -176,7 +178,7 @@ impl BoardLines {
     {
         let line = end_line(self.turns, self.offset);
         let put = put_bytes(out, self.at, line.as_slice());
-        or_back(put.map(|length| Report { length }), self)
+        hand_back(put.map(|length| Report { length }), self)
     }
 }
 
