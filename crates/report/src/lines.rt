@@ -34,13 +34,12 @@ pub fn board_line<R: Spelled>(board: u32, state: BoardState, of: R) -> Line
     ensures written { text result ≡ board_line board state (R.Spelled.spelled of) }
     ensures short { length (R.Spelled.spelled of) ≤ 30 }
 {
-    let spelling = of.spell();
     Line::new()
         .and("B ")
         .and_decimal(board)
         .and(" ")
         .and_decimal(state.number())
         .and(" ")
-        .and(spelling.as_str())
+        .and(of.spell().as_str())
         .and("\n")
 }
