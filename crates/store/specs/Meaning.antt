@@ -1,5 +1,5 @@
 -- What a store means, and what each call does to that.
-use Rattle.std.specs.Prelude.{ℕ, zero, suc, ◌-◌, Bool, cond, List, [], ◌∷◌, replicate, is_some, is_ok, Some, None, Ok, Err, Option, Result, ◌==◌}
+use Rattle.std.specs.Prelude.{ℕ, zero, suc, ◌-◌, Bool, cond, ◌||◌, List, [], ◌∷◌, replicate, is_some, is_ok, Some, None, Ok, Err, Option, Result, ◌==◌, nat_lt}
 use Rattle.std.specs.List.{slice_get}
 use Rattle.store.specs.declared.refusal.MakeRefusal.{MakeRefusal}
 use Rattle.store.specs.declared.refusal.MakeRefusal.TheVariants.{BadCount, BadRoom}
@@ -101,3 +101,7 @@ discard_after m p = cond (is_ok (keep_answer m p)) (record { boards = updated di
 -- a new store: the first record standing everywhere, and none pending
 abbrev pub fresh_meaning : {R : Type 0} → R → ℕ → ℕ → Meaning R
 fresh_meaning first spare n = record { boards = replicate n (record { standing = first; pending = None }); spare = spare }
+
+-- why a store is not made: of 0 or over 64 boards, then in a memory that does not fit them
+abbrev pub make_refused : Bool → ℕ → Option MakeRefusal
+make_refused unfit n = cond (n == 0 || nat_lt 64 n) (Some BadCount) (cond unfit (Some BadRoom) None)

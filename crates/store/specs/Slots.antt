@@ -1,9 +1,8 @@
 -- The slot store: two places a board, and what they mean.
-use Rattle.std.specs.Prelude.{ℕ, zero, suc, ◌+◌, ◌*◌, Bool, true, false, cond, ◌||◌, List, [], ◌∷◌, ◌++◌, drop, is_ok, Some, None, Option, ◌==◌, nat_lt, slice_set}
+use Rattle.std.specs.Prelude.{ℕ, zero, suc, ◌+◌, ◌*◌, Bool, true, false, cond, List, [], ◌∷◌, ◌++◌, drop, is_ok, Some, None, Option, nat_lt, slice_set}
 use Rattle.std.specs.List.{slice_get}
-use Rattle.store.specs.Meaning.{Kept, Meaning, put_answer, keep_answer}
+use Rattle.store.specs.Meaning.{Kept, Meaning, put_answer, keep_answer, make_refused}
 use Rattle.store.specs.declared.refusal.MakeRefusal.{MakeRefusal}
-use Rattle.store.specs.declared.refusal.MakeRefusal.TheVariants.{BadCount, BadRoom}
 use Rattle.store.specs.declared.slots.Slot.{Slot}
 
 abbrev pub filled : {R : Type 0} → Bool → R → Slot R
@@ -27,13 +26,9 @@ abbrev pub fresh_slots : {R : Type 0} → R → ℕ → List (Slot R)
 fresh_slots first zero = []
 fresh_slots first (suc n) = filled true first ∷ filled false first ∷ fresh_slots first n
 
--- a board's two places as in a new store
-abbrev pub cleared_at : {R : Type 0} → R → List (Slot R) → ℕ → List (Slot R)
-cleared_at first xs p = slice_set (slice_set xs (2 * p) (filled true first)) (2 * p + 1) (filled false first)
-
 -- why a slot store is not made: of 0 or over 64 boards, then of fewer than two places a board
 abbrev pub slots_refused : ℕ → ℕ → Option MakeRefusal
-slots_refused places n = cond (n == 0 || nat_lt 64 n) (Some BadCount) (cond (nat_lt places (2 * n)) (Some BadRoom) None)
+slots_refused places n = make_refused (nat_lt places (2 * n)) n
 
 -- the memory after making: the places of a new store, and what was there past them; at a refusal as it was
 abbrev pub prepared : {R : Type 0} → R → List (Slot R) → ℕ → Option MakeRefusal → List (Slot R)

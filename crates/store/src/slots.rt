@@ -1,17 +1,15 @@
 // A store that keeps two places a board in memory handed to it: the standing record, and the pending one or none.
-ghost use Rattle.std.specs.Prelude.{◌≡◌, ℕ, ◌+◌, ◌*◌, ◌/◌, ◌<◌, ◌≤◌, true, false, ◌++◌, length, take, drop, IfOk, Some, slice_set};
-ghost use Rattle.std.proofs.Common.{lit≤};
-ghost use Rattle.store.specs.Meaning.{fresh_meaning, standing_of, pending_of, put_answer, put_after, keep_answer, keep_after, discard_after};
-ghost use Rattle.store.specs.Slots.{slot_meaning, filled, cleared_at, fresh_slots, slots_refused, prepared, put_slots, keep_slots, discard_slots};
+ghost use Rattle.std.specs.Prelude.{◌≡◌, ◌+◌, ◌*◌, ◌<◌, true, false, length, take, IfOk, IfErr, None};
 ghost use Rattle.std.specs.List.{slice_get};
 ghost use Rattle.std.specs.Result.{result_err};
+ghost use Rattle.std.proofs.Common.{lit≤};
+ghost use Rattle.store.specs.Meaning.{fresh_meaning, standing_of, pending_of, put_answer, put_after, keep_answer, keep_after, discard_after};
+ghost use Rattle.store.specs.Slots.{filled, pairs, slot_meaning, fresh_slots, slots_refused, prepared, put_slots, keep_slots, discard_slots};
+ghost use Rattle.store.specs.declared.refusal.StoreRefusal.TheVariants.{BadBoard, WrongPending};
 
 use crate::refusal::{MakeRefusal, StoreRefusal};
 use crate::traits::Store;
 use records::part::Part;
-
-// the most boards of a store
-const MAX_BOARDS: usize = 64;
 
 // one place: whether it is taken, and its record
 #[derive(Clone, Copy)]
@@ -20,40 +18,48 @@ pub struct Slot<R> {
     pub state: R,
 }
 
-// Reads one place.
-fn slot_at<R: Part>(slots: &[Slot<R>], place: usize) -> Slot<R>
-    requires { place < length slots.now }
-    ensures { slice_get slots.now place ≡ Some result }
-{
-    slots[place]
+impl<R: Part> Slot<R> {
+    // Empties the place and gives the record that it held, or refuses where it is empty.
+    fn take(&mut self) -> Result<R, StoreRefusal>
+        ensures taken { IfOk result (λ state. (self.old ≡ filled true state) × (self.new ≡ filled false R.Part.rules.first)) }
+        ensures free { IfErr result (λ why. (why ≡ WrongPending) × (self.old.taken ≡ false) × (self.new ≡ self.old)) }
+    {
+        if !self.taken {
+            return Err(StoreRefusal::WrongPending);
+        }
+        let state = self.state;
+        *self = Slot {
+            taken: false,
+            state: R::first(),
+        };
+        Ok(state)
+    }
 }
 
-// Writes one place.
-fn fill<R: Part>(slots: &mut [Slot<R>], place: usize, taken: bool, state: R)
-    requires { place < length slots.old }
-    ensures { slots.new ≡ slice_set slots.old place (filled taken state) }
+// The place of the board's standing record; that of its pending one is right behind it.
+fn place_of<R: Part>(slots: &[Slot<R>], board: usize) -> Result<usize, StoreRefusal>
+    ensures place { IfOk result (λ place. (place ≡ 2 * board) × (place + 1 < length slots.now)) }
+    ensures none { IfErr result (λ why. (why ≡ BadBoard) × (slice_get (pairs slots.now) board ≡ None)) }
 {
-    slots[place] = Slot { taken, state };
+    if board < slots.len() / 2 {
+        Ok(2 * board)
+    } else {
+        Err(StoreRefusal::BadBoard)
+    }
 }
 
 fn standing_in<R: Part>(slots: &[Slot<R>], board: usize) -> Result<R, StoreRefusal>
     ensures { result ≡ standing_of (slot_meaning slots.now) board }
 {
-    if board >= slots.len() / 2 {
-        return Err(StoreRefusal::BadBoard);
-    }
-    let standing = slot_at(slots, 2 * board);
-    Ok(standing.state)
+    let place = place_of(slots, board)?;
+    Ok(slots[place].state)
 }
 
 fn pending_in<R: Part>(slots: &[Slot<R>], board: usize) -> Result<bool, StoreRefusal>
     ensures { result ≡ pending_of (slot_meaning slots.now) board }
 {
-    if board >= slots.len() / 2 {
-        return Err(StoreRefusal::BadBoard);
-    }
-    let pending = slot_at(slots, 2 * board + 1);
-    Ok(pending.taken)
+    let place = place_of(slots, board)?;
+    Ok(slots[place + 1].taken)
 }
 
 fn put_in<R: Part>(slots: &mut [Slot<R>], board: usize, state: R) -> Result<(), StoreRefusal>
@@ -61,14 +67,11 @@ fn put_in<R: Part>(slots: &mut [Slot<R>], board: usize, state: R) -> Result<(), 
     ensures after { slot_meaning slots.new ≡ put_after 0 (slot_meaning slots.old) board state }
     ensures memory { slots.new ≡ put_slots slots.old board state }
 {
-    if board >= slots.len() / 2 {
-        return Err(StoreRefusal::BadBoard);
-    }
-    let pending = slot_at(slots, 2 * board + 1);
-    if pending.taken {
+    let place = place_of(slots, board)?;
+    if slots[place + 1].taken {
         return Err(StoreRefusal::WrongPending);
     }
-    fill(slots, 2 * board + 1, true, state);
+    slots[place + 1] = Slot { taken: true, state };
     Ok(())
 }
 
@@ -77,15 +80,9 @@ fn keep_in<R: Part>(slots: &mut [Slot<R>], board: usize) -> Result<(), StoreRefu
     ensures after { slot_meaning slots.new ≡ keep_after (slot_meaning slots.old) board }
     ensures memory { slots.new ≡ keep_slots R.Part.rules.first slots.old board }
 {
-    if board >= slots.len() / 2 {
-        return Err(StoreRefusal::BadBoard);
-    }
-    let pending = slot_at(slots, 2 * board + 1);
-    if !pending.taken {
-        return Err(StoreRefusal::WrongPending);
-    }
-    fill(slots, 2 * board, true, pending.state);
-    fill(slots, 2 * board + 1, false, R::first());
+    let place = place_of(slots, board)?;
+    let state = slots[place + 1].take()?;
+    slots[place] = Slot { taken: true, state };
     Ok(())
 }
 
@@ -94,15 +91,8 @@ fn discard_in<R: Part>(slots: &mut [Slot<R>], board: usize) -> Result<(), StoreR
     ensures after { slot_meaning slots.new ≡ discard_after (slot_meaning slots.old) board }
     ensures memory { slots.new ≡ discard_slots R.Part.rules.first slots.old board }
 {
-    if board >= slots.len() / 2 {
-        return Err(StoreRefusal::BadBoard);
-    }
-    let place = 2 * board + 1;
-    let pending = slot_at(slots, place);
-    if !pending.taken {
-        return Err(StoreRefusal::WrongPending);
-    }
-    fill(slots, place, false, R::first());
+    let place = place_of(slots, board)?;
+    slots[place + 1].take()?;
     Ok(())
 }
 
@@ -111,37 +101,18 @@ pub struct SlotStore<'a, R: Part> {
     slots: &'a mut [Slot<R>],
 }
 
-// Puts the first record into the places of one board, standing and not pending.
-fn clear_board<R: Part>(slots: &mut [Slot<R>], board: usize)
-    requires { 2 * board + 1 < length slots.old }
-    ensures { slots.new ≡ cleared_at R.Part.rules.first slots.old board }
-{
-    let first = R::first();
-    fill(slots, 2 * board, true, first);
-    fill(slots, 2 * board + 1, false, first);
-}
-
-fn clear<R: Part>(slots: &mut [Slot<R>], boards: usize)
-    requires { 2 * boards ≤ length slots.old }
-    ensures { slots.new ≡ fresh_slots R.Part.rules.first boards ++ drop (2 * boards) slots.old }
-{
-    for board in 0..boards {
-        clear_board(slots, board);
-    }
-}
-
 // Makes the memory's first places those of a new store, or refuses, and then leaves it as it was.
 pub fn prepare<R: Part>(slots: &mut [Slot<R>], boards: usize) -> Result<(), MakeRefusal>
     ensures answer { result_err result ≡ slots_refused (length slots.old) boards }
     ensures memory { slots.new ≡ prepared R.Part.rules.first slots.old boards (result_err result) }
 {
-    if boards == 0 || boards > MAX_BOARDS {
-        return Err(MakeRefusal::BadCount);
+    MakeRefusal::check(boards, slots.len() / 2 < boards)?;
+    for (place, slot) in slots[..2 * boards].iter_mut().enumerate() {
+        *slot = Slot {
+            taken: place % 2 == 0,
+            state: R::first(),
+        };
     }
-    if slots.len() / 2 < boards {
-        return Err(MakeRefusal::BadRoom);
-    }
-    clear(slots, boards);
     Ok(())
 }
 
@@ -152,14 +123,9 @@ impl<'a, R: Part> SlotStore<'a, R> {
         ensures answer { result_err result ≡ slots_refused (length slots.old) boards }
         ensures made { IfOk result (λ s. s.slots.now ≡ take (2 * boards) slots.old) }
     {
-        if boards == 0 || boards > MAX_BOARDS {
-            return Err(MakeRefusal::BadCount);
-        }
-        if slots.len() / 2 < boards {
-            return Err(MakeRefusal::BadRoom);
-        }
+        MakeRefusal::check(boards, slots.len() / 2 < boards)?;
         Ok(SlotStore {
-            slots: &mut slots[0..2 * boards],
+            slots: &mut slots[..2 * boards],
         })
     }
 

@@ -16,7 +16,8 @@ pub trait Store {
     // what the store means
     ghost meaning: { Self → Meaning Self.Record };
 
-    // the wear, as clauses cite it
+    // The same number, as clauses cite it. A `ghost WEAR` would be the constant itself, but for a type with a lifetime
+    // the constant then gets no proof.
     ghost wear: { ℕ };
 
     ghost slight: { wear ≤ 1 };

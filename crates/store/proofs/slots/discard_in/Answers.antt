@@ -1,27 +1,27 @@
-use Rattle.std.proofs.Common.{◌+◌, ◌*◌, false, set, ap, ◌∙◌}
-use Rattle.store.specs.Slots.{slot_meaning, filled}
-use Rattle.store.proofs.Slotted.{keep_none, keep_taken, keep_free, discard_after_lem, discard_refused, by_answer}
+use Rattle.std.proofs.Common.{◌+◌, true, false, set, ap, ◌∙◌, refl}
+use Rattle.std.proofs.lemmas.List.{set-get_or}
+use Rattle.std.proofs.lemmas.Result.{err_from_is_err_and}
+use Rattle.store.proofs.Slotted.{kept, pending_set}
+use Rattle.store.specs.Meaning.{discarding}
+use Rattle.store.specs.Slots.{filled}
+use Rattle.store.specs.declared.slots.Slot.{Slot}
 use Rattle.store.proofs.slots.discard_in.Goals as goal
 
-pub returns-then-board-slots : goal.returns-then-board-slots
-returns-then-board-slots g c =
+pub returns-in_err-take : goal.returns-in_err-take
+returns-in_err-take g c =
     let xs = c.args.slots.now in
-    let e = keep_none xs c.args.board c.if-board-slots.true in
-    record { answer = e; after = discard_refused (slot_meaning xs) c.args.board _ e; memory = by_answer _ _ _ _ e }
-
-pub returns-then-not-pending : goal.returns-then-not-pending
-returns-then-not-pending g c =
-    let xs = c.args.slots.now in
-    let e = keep_free xs c.args.board _ c.slot_at-pending.ensures c.if-not-pending.true in
-    record { answer = e; after = discard_refused (slot_meaning xs) c.args.board _ e; memory = by_answer _ _ _ _ e }
+    let at = c.in_ok-place.ensures.place in
+    let free = c.in_err-take.ensures.free in
+    let k = kept xs c.args.board _ at.0 at.1 _ false free.1 in
+    let why = err_from_is_err_and c.from_residual-in_err-take.result c.from_residual-in_err-take.ensures.1 in
+    let same = ap (set xs (c.in_ok-place.place + 1)) free.2 ∙ set-get_or xs (c.in_ok-place.place + 1) _ in
+    record { answer = rw (why.1, why.2, free.0, k); after = rw (same, k); memory = rw (same, k) }
 
 pub returns : goal.returns
 returns g c =
     let xs = c.args.slots.now in
-    let p = c.args.board in
-    let e = keep_taken xs p _ c.slot_at-pending.ensures c.if-not-pending.false in
-    record {
-      answer = e;
-      after = ap slot_meaning c.fill.ensures ∙ discard_after_lem xs p _ c.slot_at-pending.ensures c.first.result c.if-not-pending.false;
-      memory = c.fill.ensures ∙ ap (λ r. set xs (2 * p + 1) (filled false r)) c.first.ensures ∙ by_answer _ _ _ _ e;
-    }
+    let at = c.in_ok-place.ensures.place in
+    let taken = c.in_ok-take.ensures.taken in
+    let k = kept xs c.args.board _ at.0 at.1 _ true (ap (λ (s : Slot _). s.taken) taken.0) in
+    let set = pending_set xs c.args.board _ at.0 at.1 c.index-slots-place.result (filled false g.R.Part.rules.first) discarding refl in
+    record { answer = rw k; after = rw (taken.1, k, set); memory = rw (taken.1, k, at.0) }
