@@ -1,8 +1,11 @@
 -- The list of all boards, by a function of the board. Assumes nothing.
-use Rattle.std.proofs.Common.{◌≡◌, ℕ, zero, suc, ◌+◌, ◌<◌, ◌≤◌, List, [], ◌∷◌, map, Some, None, sum_by, sym, refl, ap, ◌∙◌, arith}
+use Rattle.std.proofs.Common.{◌≡◌, ℕ, zero, suc, ◌+◌, ◌<◌, ◌≤◌, List, [], ◌∷◌, map, is_some, Some, None, sum_by, sym, refl, ap, ◌∙◌, arith}
 use Rattle.std.specs.List.{slice_get, range_with_len}
 use Rattle.std.proofs.lemmas.List.Sums.{sum_by-cons}
-use Rattle.store.specs.Meaning.{updated}
+use Rattle.std.specs.List.{count_by}
+use Rattle.std.proofs.lemmas.List.Folds.{fold-map}
+use Rattle.store.specs.Meaning.{Kept, updated}
+use Rattle.journal.specs.Logs.{pending_one}
 
 module _ {A : Type 0} where
   nth_from : (f : ℕ → A) (a n p q : ℕ) → p < n → a + p ≡ q → slice_get (map f (range_with_len a n)) p ≡ Some (f q)
@@ -64,3 +67,7 @@ module _ {A : Type 0} where
       let wy = ap w same in
       omega (arith, wy, sum_by-cons w y ys)
   sum_has w (y ∷ ys) (suc p) x e = let more = sum_has w ys p x e in omega (arith, more, sum_by-cons w y ys)
+
+-- how many boards have a record pending, counted board by board
+pub counted : {R : Type 0} (f : ℕ → Kept R) (bs : List ℕ) → count_by (λ b. is_some (f b).pending) bs ≡ sum_by pending_one (map f bs)
+counted f bs = sym (fold-map (λ a k. a + pending_one k) f 0 bs)

@@ -1,7 +1,7 @@
 pub mod Boards
 pub mod Asked
+pub mod Latest
 pub mod Appended
-pub mod Answered
 pub mod Means
 pub mod Fresh
 pub mod Pointers

@@ -1,11 +1,9 @@
 -- The pointers back of a log end at the board's first entry, and an appended entry keeps them so. Assumes nothing.
-use Rattle.std.proofs.Common.{◌≡◌, ℕ, zero, suc, ◌+◌, ◌<◌, Bool, true, false, cond, eqb, ◌⊎◌, List, [], ◌∷◌, ◌++◌, length, take, set, Some, None, Ok, sym, refl, ap, ◌∙◌, subst, inl, inr, ⊎_elim, arith}
+use Rattle.std.proofs.Common.{◌≡◌, ◌≢◌, ℕ, zero, suc, ◌+◌, ◌<◌, Bool, true, false, cond, eqb, ◌⊎◌, List, [], ◌∷◌, ◌++◌, length, take, set, Some, None, sym, refl, ap, ◌∙◌, subst, inl, inr, ⊎_elim, arith}
 use Rattle.std.specs.List.{slice_get}
 use Rattle.std.proofs.lemmas.Bool.{cases_lt, eqb-true, eq-eqb, cond-true}
 use Rattle.std.proofs.lemmas.List.{take_more_set}
-use Rattle.store.specs.Meaning.{put_at, put_answer, keep_at, keep_answer}
-use Rattle.journal.specs.Journals.{kept_at, journal_meaning, entry_of, first_entry, fresh_entries}
-use Rattle.journal.proofs.Answered.{err_not_ok}
+use Rattle.journal.specs.Journals.{entry_of, first_entry, fresh_entries}
 use Rattle.journal.proofs.Boards.{nth_board, no_board}
 use Rattle.journal.specs.Logs.{latest_from}
 use Rattle.journal.specs.Pointers.{Stands, PointsBy, Threaded, EndsBy, Ends, Traced}
@@ -129,23 +127,19 @@ module _ {R : Type 0} (first : R) (entries : List (Entry R)) (used n p : ℕ) (r
   log : List (Entry R)
   log = take used entries
 
-  pub traced_call : (kind : EntryKind) → ((i b : ℕ) → (b < i) × Stands (take used entries) p b → PointsBy kind (take used entries) p i b)
-      → used < length entries → p < n → Threaded (take used entries) n
+  points_by : (kind : EntryKind) → kind ≢ First → (i b : ℕ) → (b < i) × Stands (take used entries) p b → PointsBy kind (take used entries) p i b
+  points_by First k i b h = absurd (k refl)
+  points_by Put k i b h = h
+  points_by Keep k i b h = h
+  points_by Discard k i b h = h
+
+  pub traced_call : (kind : EntryKind) → kind ≢ First → used < length entries → p < n → Threaded (take used entries) n
       → Traced (take (used + 1) (set entries used (entry_of p kind r (take used entries)))) n
-  traced_call kind earlier room l t =
+  traced_call kind k room l t =
       let e = entry_of p kind r (take used entries) in
       subst (λ (xs : List (Entry R)). Traced xs n) (sym (take_more_set entries used e room))
       (traced (take used entries ++ e ∷ []) n
-      (threaded_more (take used entries) n e t (earlier (length (take used entries)) _ (latest_back (take used entries) n p t l))))
-
--- a call that is taken names a board
-pub put_range : {R : Type 0} (first : R) (entries : List (Entry R)) (used n p : ℕ) → Ok tt ≡ put_answer (journal_meaning first entries used n) p → p < n
-put_range first entries used n p h =
-    ⊎_elim (λ l. l) (λ l. absurd (err_not_ok (ap (put_at _) (sym (no_board (kept_at first entries used n) n p l)) ∙ sym h))) (cases_lt p n)
-
-pub keep_range : {R : Type 0} (first : R) (entries : List (Entry R)) (used n p : ℕ) → Ok tt ≡ keep_answer (journal_meaning first entries used n) p → p < n
-keep_range first entries used n p h =
-    ⊎_elim (λ l. l) (λ l. absurd (err_not_ok (ap keep_at (sym (no_board (kept_at first entries used n) n p l)) ∙ sym h))) (cases_lt p n)
+      (threaded_more (take used entries) n e t (points_by kind k (length (take used entries)) _ (latest_back (take used entries) n p t l))))
 
 -- the entries of a new journal
 some_same : {A : Type 0} (x y : A) → Some x ≡ Some y → x ≡ y

@@ -1,13 +1,12 @@
 -- What a journal means. It has C places, of which U are used; K of its boards have a record pending.
-use Rattle.std.specs.Prelude.{◌≡◌, ℕ, ◌+◌, ◌-◌, ◌/◌, Bool, cond, ◌||◌, List, ◌++◌, map, length, take, drop, Some, None, Ok, Err, Option, Result, ◌==◌, nat_le, nat_lt, slice_set}
+use Rattle.std.specs.Prelude.{◌≡◌, ℕ, ◌+◌, ◌-◌, ◌/◌, Bool, cond, ◌||◌, List, ◌++◌, map, length, take, drop, Some, None, Ok, Err, Option, Result, nat_le, nat_lt, slice_set}
 use Rattle.std.specs.List.{range_with_len}
-use Rattle.store.specs.Meaning.{Kept, Meaning, discarding, fresh_meaning, put_after}
+use Rattle.store.specs.Meaning.{Kept, Meaning, discarding, fresh_meaning, keep_after, discard_after, make_refused}
 use Rattle.store.specs.declared.refusal.MakeRefusal.{MakeRefusal}
-use Rattle.store.specs.declared.refusal.MakeRefusal.TheVariants.{BadCount, BadRoom}
 use Rattle.journal.specs.Logs.{kept_of, kept_all, pending_count, latest_from}
 use Rattle.journal.specs.declared.entry.Entry.{Entry}
 use Rattle.journal.specs.declared.entry.EntryKind.{EntryKind}
-use Rattle.journal.specs.declared.entry.EntryKind.TheVariants.{First}
+use Rattle.journal.specs.declared.entry.EntryKind.TheVariants.{First, Put, Keep, Discard}
 
 -- K, by the used entries
 abbrev pub pendings : {R : Type 0} → R → List (Entry R) → ℕ → ℕ → ℕ
@@ -45,13 +44,12 @@ abbrev pub used_after : {V E : Type 0} → Result V E → ℕ → ℕ
 used_after (Ok v) used = used + 1
 used_after (Err x) used = used
 
--- the same where the entry ends a pending record, and so holds the first one
-abbrev pub ended : {V E R : Type 0} → Result V E → R → List (Entry R) → ℕ → ℕ → EntryKind → List (Entry R)
-ended r first entries used p kind = appended r entries used (entry_of p kind first (take used entries))
-
--- the meaning after put
-abbrev pub PutDone : {R : Type 0} → R → List (Entry R) → ℕ → ℕ → ℕ → R → List (Entry R) → ℕ → Type 0
-PutDone first entries used n p r entries' used' = journal_meaning first entries' used' n ≡ put_after 1 (journal_meaning first entries used n) p r
+-- the meaning after an entry that ends a pending record, of kind keep or drop
+abbrev pub ended_after : {R : Type 0} → EntryKind → Meaning R → ℕ → Meaning R
+ended_after First m p = m
+ended_after Put m p = m
+ended_after Keep m p = keep_after m p
+ended_after Discard m p = discard_after m p
 
 -- the entries of a new journal: each board's first record, which points to itself
 abbrev pub first_entry : {R : Type 0} → R → ℕ → Entry R
@@ -66,7 +64,7 @@ new_meaning first places n = fresh_meaning first ((places - n) / 2) n
 
 -- why a journal is not made: of 0 or over 64 boards, then of fewer places than boards or over 1,024
 abbrev pub journal_refused : ℕ → ℕ → Option MakeRefusal
-journal_refused places n = cond (n == 0 || nat_lt 64 n) (Some BadCount) (cond (nat_lt places n || nat_lt 1024 places) (Some BadRoom) None)
+journal_refused places n = make_refused (nat_lt places n || nat_lt 1024 places) n
 
 -- the memory after making: the entries of a new journal, and what was there past them; at a refusal as it was
 abbrev pub prepared : {R : Type 0} → R → List (Entry R) → ℕ → Option MakeRefusal → List (Entry R)

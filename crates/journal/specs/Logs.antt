@@ -1,7 +1,8 @@
 -- What a log of entries keeps of each board.
-use Rattle.std.specs.Prelude.{ℕ, ◌+◌, cond, List, [], ◌∷◌, map, is_some, None, fold, sum_by, Option, ◌==◌}
-use Rattle.std.specs.List.{range_with_len}
+use Rattle.std.specs.Prelude.{◌≡◌, ◌≢◌, ℕ, ◌+◌, ◌<◌, IfSome, IsSomeAnd, cond, List, [], ◌∷◌, map, is_some, None, fold, sum_by, ◌==◌}
+use Rattle.std.specs.List.{slice_get, range_with_len}
 use Rattle.store.specs.Meaning.{Kept, putting, keeping, discarding}
+use Rattle.journal.specs.declared.log.Kept as held
 use Rattle.journal.specs.declared.entry.Entry.{Entry}
 use Rattle.journal.specs.declared.entry.EntryKind.{EntryKind}
 use Rattle.journal.specs.declared.entry.EntryKind.TheVariants.{First, Put, Keep, Discard}
@@ -46,5 +47,13 @@ latest_from p k i [] = k
 latest_from p k i (e ∷ es) = latest_from p (cond (e.board == p) i k) (i + 1) es
 
 -- what code holds of a board: the standing record, and the pending one or none
-abbrev pub as_kept : {R : Type 0} → R × Option R → Kept R
-as_kept x = record { standing = x.0; pending = x.1 }
+abbrev pub as_kept : {R : Type 0} → held.Kept R → Kept R
+as_kept k = record { standing = k.standing; pending = k.pending }
+
+-- no entry of the log is of this board
+abbrev pub NoneOf : {R : Type 0} → ℕ → List (Entry R) → Type 0
+NoneOf p log = (k : ℕ) → IfSome (slice_get log k) (λ e. e.board ≢ p)
+
+-- this place has an entry of the board, and no later one has
+abbrev pub LatestAt : {R : Type 0} → ℕ → List (Entry R) → ℕ → Type 0
+LatestAt p log i = IsSomeAnd (slice_get log i) (λ e. e.board ≡ p) × ((k : ℕ) → i < k → IfSome (slice_get log k) (λ e. e.board ≢ p))

@@ -5,10 +5,10 @@ ghost use Rattle.journal.specs.Logs.{kind_number};
 // what an entry tells of its board: its first record, or that one was put, kept or dropped
 #[derive(Clone, Copy, PartialEq, Eq, Debug)]
 pub enum EntryKind {
-    First,
-    Put,
-    Keep,
-    Discard,
+    First = 0,
+    Put = 1,
+    Keep = 2,
+    Discard = 3,
 }
 
 #[derive(Clone, Copy)]
@@ -24,11 +24,6 @@ impl EntryKind {
     pub fn number(self) -> u32
         ensures { result ≡ kind_number self }
     {
-        match self {
-            EntryKind::First => 0,
-            EntryKind::Put => 1,
-            EntryKind::Keep => 2,
-            EntryKind::Discard => 3,
-        }
+        self as u32
     }
 }

@@ -1,7 +1,6 @@
 // The journal: a store that only ever appends entries to memory handed to it.
 #![tactic(auto)]
 
-mod calls;
 pub mod entry;
 mod log;
 pub mod memory;

@@ -1,15 +1,10 @@
 // The journal as a store.
-ghost use Rattle.std.specs.Prelude.{◌≡◌, ◌≤◌, false, ◌++◌, reverse, length, drop, IfOk};
-ghost use Rattle.std.proofs.Common.{lit≤};
-ghost use Rattle.journal.specs.Back.{latest_kept};
-ghost use Rattle.journal.specs.Held.{meaning_of, log_of, grown, Threading, Tracing, HasPlaces};
-ghost use Rattle.journal.specs.Journals.{entry_of, used_after, fresh_entries, new_meaning, journal_refused, prepared, New};
-ghost use Rattle.journal.specs.declared.entry.EntryKind.TheVariants.{Put, Keep, Discard};
+ghost use Rattle.std.specs.Prelude.{◌≡◌, true, length};
 ghost use Rattle.std.specs.Result.{result_err};
-ghost use Rattle.store.specs.Meaning.{standing_of, put_answer, put_after, keep_answer, keep_after, discard_after};
+ghost use Rattle.journal.specs.Journals.{roomy, journal_refused, prepared};
 
-use crate::calls::{end_in, pending_in, put_in, spare_in, standing_in};
 use crate::entry::{Entry, EntryKind};
+use crate::log::{Kept, count_pending, kept_in, latest_of};
 use records::part::Part;
 use store::refusal::{MakeRefusal, StoreRefusal};
 use store::traits::Store;
@@ -17,56 +12,36 @@ use store::traits::Store;
 // what each put lowers the spare by
 const JOURNAL_WEAR: u32 = 1;
 
+// the most places of a journal
+const MAX_PLACES: usize = 1024;
+
 #[derive(Drop)]
 pub struct Journal<'a, R: Part> {
     entries: &'a mut [Entry<R>],
     used: usize,
     boards: usize,
-}
-
-// the most boards and places of a journal
-const MAX_BOARDS: usize = 64;
-
-const MAX_PLACES: usize = 1024;
-
-// Writes the first entry of each board.
-fn clear<R: Part>(entries: &mut [Entry<R>], boards: usize)
-    requires { boards ≤ length entries.old }
-    ensures { entries.new ≡ fresh_entries R.Part.rules.first boards ++ drop boards entries.old }
-{
-    for board in 0..boards {
-        entries[board] = Entry {
-            board,
-            kind: EntryKind::First,
-            state: R::first(),
-            back: board,
-        };
-    }
-}
-
-// Makes the memory's first entries those of a new journal, or refuses, and then leaves it as it was.
-pub fn prepare<R: Part>(entries: &mut [Entry<R>], boards: usize) -> Result<(), MakeRefusal>
-    ensures answer { result_err result ≡ journal_refused (length entries.old) boards }
-    ensures memory { entries.new ≡ prepared R.Part.rules.first entries.old boards (result_err result) }
-{
-    if boards == 0 || boards > MAX_BOARDS {
-        return Err(MakeRefusal::BadCount);
-    }
-    if entries.len() < boards || entries.len() > MAX_PLACES {
-        return Err(MakeRefusal::BadRoom);
-    }
-    clear(entries, boards);
-    Ok(())
+    // Every pending record has a place left for the entry that ends it. That the pointers are as they should be is no
+    // ghost field: it has more than one proof, and truncated it would say less.
+    ghost room: { roomy R.Part.rules.first entries.now used boards ≡ true },
 }
 
 impl<'a, R: Part> Journal<'a, R> {
+    ghost use Rattle.std.specs.Prelude.{◌≡◌, ◌≢◌, ◌+◌, ◌<◌, true, length, Some, None, IfOk, IfErr, OnOk};
+    ghost use Rattle.std.specs.List.{slice_get};
+    ghost use Rattle.std.specs.Result.{result_err};
+    ghost use Rattle.journal.specs.Held.{meaning_of, log_of, with_entry, grown, Threading, Tracing};
+    ghost use Rattle.journal.specs.Logs.{as_kept, kept_of};
+    ghost use Rattle.journal.specs.Journals.{entry_of, used_after, new_meaning, journal_refused, roomy, New, ended_after};
+    ghost use Rattle.journal.specs.declared.entry.EntryKind.TheVariants.{First, Put};
+    ghost use Rattle.store.specs.Meaning.{keep_answer};
+    ghost use Rattle.store.specs.declared.refusal.StoreRefusal.TheVariants.{BadBoard};
+
     // A new journal in the whole of the memory: the first record stands everywhere, and none is pending.
     pub fn new(entries: &'a mut [Entry<R>], boards: usize) -> Result<Journal<'a, R>, MakeRefusal>
         ensures answer { result_err result ≡ journal_refused (length entries.old) boards }
         ensures places { IfOk result (λ s. New R.Part.rules.first entries.old boards s.entries.now s.used s.boards) }
         ensures fresh { IfOk result (λ s. meaning_of R.Part.rules.first s ≡ new_meaning R.Part.rules.first (length entries.old) boards) }
         ensures traced { IfOk result Tracing }
-        ensures room { IfOk result (HasPlaces R.Part.rules.first) }
     {
         prepare(entries, boards)?;
         Ok(Journal {
@@ -75,9 +50,95 @@ impl<'a, R: Part> Journal<'a, R> {
             boards,
         })
     }
+
+    // The entries that are used.
+    fn log(&self) -> &[Entry<R>]
+        ensures { result.now ≡ log_of self.now }
+    {
+        &self.entries[..self.used]
+    }
+
+    // What is kept of the board.
+    #[tactic(auto, using(crate::proofs::Asked::board_at, crate::proofs::Asked::no_board))]
+    fn kept(&self, board: usize) -> Result<Kept<R>, StoreRefusal>
+        ensures within { OnOk result (board < self.now.boards) }
+        ensures by_log { IfOk result (λ k. as_kept k ≡ kept_of R.Part.rules.first (log_of self.now) board) }
+        ensures kept { IfOk result (λ k. slice_get (meaning_of R.Part.rules.first self.now).boards board ≡ Some (as_kept k)) }
+        ensures none { IfErr result (λ why. (why ≡ BadBoard) × (slice_get (meaning_of R.Part.rules.first self.now).boards board ≡ None)) }
+    {
+        if board < self.boards {
+            Ok(kept_in(self.log(), board))
+        } else {
+            Err(StoreRefusal::BadBoard)
+        }
+    }
+
+    // Writes an entry into the first place that is not used.
+    fn append(&mut self, board: usize, kind: EntryKind, state: R)
+        requires kind { kind ≢ First }
+        requires within { board < self.old.boards }
+        requires free { self.old.used < length self.old.entries.now }
+        requires room { roomy R.Part.rules.first (with_entry self.old board kind state) (self.old.used + 1) self.old.boards ≡ true }
+        ensures memory { self.new.entries.now ≡ with_entry self.old board kind state }
+        ensures numbers { (self.new.used ≡ self.old.used + 1) × (self.new.boards ≡ self.old.boards) }
+        ensures stays { self.new.entries.ghost_name ≡ self.old.entries.ghost_name }
+        ensures traced { Threading self.old → Tracing self.new }
+    {
+        let back = latest_of(self.log(), board).unwrap_or(self.used);
+        self.entries[self.used] = Entry {
+            board,
+            kind,
+            state,
+            back,
+        };
+        self.used += 1;
+    }
+
+    // Ends the board's pending record by an entry of this kind, which holds the first record.
+    #[tactic(auto, using(crate::proofs::Pointers::traced, crate::proofs::Means::place_left))]
+    fn end(&mut self, board: usize, kind: EntryKind) -> Result<(), StoreRefusal>
+        requires { (kind ≢ First) × (kind ≢ Put) }
+        ensures answer { result ≡ keep_answer (meaning_of R.Part.rules.first self.old) board }
+        ensures after { meaning_of R.Part.rules.first self.new ≡ ended_after kind (meaning_of R.Part.rules.first self.old) board }
+        ensures memory { self.new.entries.now ≡ grown result self.old (entry_of board kind R.Part.rules.first (log_of self.old)) }
+        ensures numbers { (self.new.used ≡ used_after result self.old.used) × (self.new.boards ≡ self.old.boards) }
+        ensures stays { self.new.entries.ghost_name ≡ self.old.entries.ghost_name }
+        ensures traced { Threading self.old → Tracing self.new }
+    {
+        if self.kept(board)?.pending.is_none() {
+            return Err(StoreRefusal::WrongPending);
+        }
+        self.append(board, kind, R::first());
+        Ok(())
+    }
+}
+
+// Makes the memory's first entries those of a new journal, or refuses, and then leaves it as it was.
+pub fn prepare<R: Part>(entries: &mut [Entry<R>], boards: usize) -> Result<(), MakeRefusal>
+    ensures answer { result_err result ≡ journal_refused (length entries.old) boards }
+    ensures memory { entries.new ≡ prepared R.Part.rules.first entries.old boards (result_err result) }
+{
+    MakeRefusal::check(boards, entries.len() < boards || entries.len() > MAX_PLACES)?;
+    for (board, entry) in entries[..boards].iter_mut().enumerate() {
+        *entry = Entry {
+            board,
+            kind: EntryKind::First,
+            state: R::first(),
+            back: board,
+        };
+    }
+    Ok(())
 }
 
 impl<'a, R: Part> Store for Journal<'a, R> {
+    ghost use Rattle.std.specs.Prelude.{◌≡◌, false, reverse, IfOk};
+    ghost use Rattle.std.proofs.Common.{lit≤};
+    ghost use Rattle.journal.specs.Back.{latest_kept};
+    ghost use Rattle.journal.specs.Held.{meaning_of, log_of, grown, Threading, Tracing};
+    ghost use Rattle.journal.specs.Journals.{entry_of, used_after};
+    ghost use Rattle.journal.specs.declared.entry.EntryKind.TheVariants.{Put, Keep, Discard};
+    ghost use Rattle.store.specs.Meaning.{standing_of, put_answer, put_after, keep_answer, keep_after, discard_after};
+
     type Record = R;
 
     const WEAR: u32 = JOURNAL_WEAR;
@@ -97,20 +158,23 @@ impl<'a, R: Part> Store for Journal<'a, R> {
     }
 
     fn spare(&self) -> usize {
-        spare_in(self.entries, self.used, self.boards)
+        let pending = count_pending(self.log(), self.boards);
+        (self.entries.len() - self.used - pending) / 2
     }
 
+    #[tactic(auto, using(crate::proofs::Back::stands_latest))]
     fn standing(&self, board: usize) -> Result<R, StoreRefusal>
         ensures value { result ≡ standing_of (meaning_of R.Part.rules.first self.now) board }
         ensures latest { IfOk result (λ x. x ≡ latest_kept R.Part.rules.first board false (reverse (log_of self.now))) }
     {
-        standing_in(self.entries, self.used, self.boards, board)
+        Ok(self.kept(board)?.standing)
     }
 
     fn is_pending(&self, board: usize) -> Result<bool, StoreRefusal> {
-        pending_in(self.entries, self.used, self.boards, board)
+        Ok(self.kept(board)?.pending.is_some())
     }
 
+    #[tactic(auto, using(crate::proofs::Pointers::traced))]
     fn put(&mut self, board: usize, state: R) -> Result<(), StoreRefusal>
         ensures answer { result ≡ put_answer (meaning_of R.Part.rules.first self.old) board }
         ensures after { meaning_of R.Part.rules.first self.new ≡ put_after 1 (meaning_of R.Part.rules.first self.old) board state }
@@ -118,17 +182,15 @@ impl<'a, R: Part> Store for Journal<'a, R> {
         ensures numbers { (self.new.used ≡ used_after result self.old.used) × (self.new.boards ≡ self.old.boards) }
         ensures stays { self.new.entries.ghost_name ≡ self.old.entries.ghost_name }
         ensures traced { Threading self.old → Tracing self.new }
-        ensures places { HasPlaces R.Part.rules.first self.old → HasPlaces R.Part.rules.first self.new }
     {
-        let used = self.used;
-        let boards = self.boards;
-        match put_in(self.entries, used, boards, board, state) {
-            Ok(()) => {
-                self.used = used + 1;
-                Ok(())
-            }
-            Err(refusal) => Err(refusal),
+        if self.kept(board)?.pending.is_some() {
+            return Err(StoreRefusal::WrongPending);
         }
+        if self.spare() == 0 {
+            return Err(StoreRefusal::NoSpare);
+        }
+        self.append(board, EntryKind::Put, state);
+        Ok(())
     }
 
     fn keep(&mut self, board: usize) -> Result<(), StoreRefusal>
@@ -138,17 +200,8 @@ impl<'a, R: Part> Store for Journal<'a, R> {
         ensures numbers { (self.new.used ≡ used_after result self.old.used) × (self.new.boards ≡ self.old.boards) }
         ensures stays { self.new.entries.ghost_name ≡ self.old.entries.ghost_name }
         ensures traced { Threading self.old → Tracing self.new }
-        ensures places { HasPlaces R.Part.rules.first self.old → HasPlaces R.Part.rules.first self.new }
     {
-        let used = self.used;
-        let boards = self.boards;
-        match end_in(self.entries, used, boards, board, EntryKind::Keep) {
-            Ok(()) => {
-                self.used = used + 1;
-                Ok(())
-            }
-            Err(refusal) => Err(refusal),
-        }
+        self.end(board, EntryKind::Keep)
     }
 
     fn discard(&mut self, board: usize) -> Result<(), StoreRefusal>
@@ -158,16 +211,7 @@ impl<'a, R: Part> Store for Journal<'a, R> {
         ensures numbers { (self.new.used ≡ used_after result self.old.used) × (self.new.boards ≡ self.old.boards) }
         ensures stays { self.new.entries.ghost_name ≡ self.old.entries.ghost_name }
         ensures traced { Threading self.old → Tracing self.new }
-        ensures places { HasPlaces R.Part.rules.first self.old → HasPlaces R.Part.rules.first self.new }
     {
-        let used = self.used;
-        let boards = self.boards;
-        match end_in(self.entries, used, boards, board, EntryKind::Discard) {
-            Ok(()) => {
-                self.used = used + 1;
-                Ok(())
-            }
-            Err(refusal) => Err(refusal),
-        }
+        self.end(board, EntryKind::Discard)
     }
 }

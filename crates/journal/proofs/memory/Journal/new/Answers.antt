@@ -6,6 +6,14 @@ use Rattle.journal.proofs.Fresh.{log_is, fresh_means, fresh_roomy, made-fits}
 use Rattle.journal.proofs.Pointers.{traced, threaded_fresh}
 use Rattle.journal.proofs.memory.Journal.new.Goals as goal
 
+pub invariant_of-result : goal.invariant_of-result
+invariant_of-result g c =
+    let first = g.R.Part.rules.first in
+    let entries = c.args.entries.now in
+    let n = c.args.boards in
+    let done = c.in_ok-prepare.ensures in
+    record { room = ap (λ es. roomy first es n n) done.memory ∙ fresh_roomy first entries n (made-fits (length entries) n done.answer) }
+
 pub returns : goal.returns
 returns g c =
     let first = g.R.Part.rules.first in
@@ -17,6 +25,5 @@ returns g c =
       answer = done.answer;
       places = record { memory = done.memory; count = refl; all = refl };
       fresh = ap (λ es. journal_meaning first es n n) done.memory ∙ fresh_means first entries n (made-fits (length entries) n done.answer);
-      room = ap (λ es. roomy first es n n) done.memory ∙ fresh_roomy first entries n (made-fits (length entries) n done.answer);
       traced = subst (λ (xs : List (Entry _)). Traced xs n) (sym log) (traced (fresh_entries first n) n (threaded_fresh first n));
     }

@@ -1,42 +1,30 @@
-use Rattle.std.proofs.Common.{◌+◌, List, take, sym, refl, ap, ◌∙◌, subst}
-use Rattle.journal.specs.Journals.{roomy}
-use Rattle.journal.specs.Pointers.{Traced}
-use Rattle.journal.specs.declared.entry.Entry.{Entry}
-use Rattle.journal.specs.declared.entry.EntryKind.TheVariants.{Put}
-use Rattle.journal.proofs.Pointers.{traced, traced_call, put_range}
+use Rattle.std.proofs.Common.{◌≡◌, false, length, take, is_some, sym, ap, ◌∙◌}
+use Rattle.store.specs.Meaning.{Kept}
+use Rattle.journal.specs.Logs.{kept_of, latest_from}
+use Rattle.journal.specs.Journals.{journal_meaning}
+use Rattle.journal.proofs.Means.{put_means}
 use Rattle.journal.proofs.memory.JournalStore.put.Goals as goal
 
-pub returns-in-Ok : goal.returns-in-Ok
-returns-in-Ok g c =
+pub append-requires-clause-room : goal.append-requires-clause-room
+append-requires-clause-room g c =
     let first = g.R.Part.rules.first in
     let s = c.args.self.now in
-    let entries = s.entries.now in
-    let log = take s.used entries in
+    let log = take s.used s.entries.now in
     let p = c.args.board in
-    let e = c.in-Ok.ensures in
-    let known = put_range first entries s.used s.boards p e.answer in
-    record {
-      answer = e.answer;
-      after = e.after;
-      memory = e.memory;
-      numbers = (refl, refl);
-      stays = refl;
-      places = λ _. e.roomy;
-      traced = λ t. subst (λ (xs : List (Entry _)). Traced (take (s.used + 1) xs) s.boards) (sym e.memory)
-          (traced_call first entries s.used s.boards p c.args.state Put (λ i b h. h) e.room known t);
-    }
+    let kept = c.in_ok-kept.ensures in
+    let free : is_some (kept_of first log p).pending ≡ false = ap (λ (k : Kept _). is_some k.pending) (sym kept.by_log) ∙ sym c.if-is_some.ensures in
+    let b = latest_from p (length log) 0 log in
+    (put_means first s.entries.now s.used s.boards p kept.within c.args.state b free (λ z. c.if-spare-eq0.false (c.spare.ensures ∙ z))).1
 
-pub returns-in-Err : goal.returns-in-Err
-returns-in-Err g c =
+pub returns-clause-after : goal.returns-clause-after
+returns-clause-after g c =
     let first = g.R.Part.rules.first in
     let s = c.args.self.now in
-    let e = c.in-Err.ensures in
-    record {
-      answer = e.answer;
-      after = e.after;
-      memory = e.memory;
-      numbers = (refl, refl);
-      stays = refl;
-      places = λ h. ap (λ es. roomy first es s.used s.boards) e.memory ∙ h;
-      traced = λ t. subst (λ (xs : List (Entry _)). Traced (take s.used xs) s.boards) (sym e.memory) (traced _ s.boards t);
-    }
+    let log = take s.used s.entries.now in
+    let p = c.args.board in
+    let kept = c.in_ok-kept.ensures in
+    let free : is_some (kept_of first log p).pending ≡ false = ap (λ (k : Kept _). is_some k.pending) (sym kept.by_log) ∙ sym c.if-is_some.ensures in
+    let b = latest_from p (length log) 0 log in
+    let e = c.append.ensures in
+    (λ i. journal_meaning first (e.memory i) (e.numbers.0 i) (e.numbers.1 i))
+    ∙ (put_means first s.entries.now s.used s.boards p kept.within c.args.state b free (λ z. c.if-spare-eq0.false (c.spare.ensures ∙ z))).0
