@@ -9,9 +9,40 @@ use journal::entry::{Entry, EntryKind};
 use journal::memory::Journal;
 use records::harness::Harness;
 use records::part::Part;
+use std::fmt;
 use store::refusal::{MakeRefusal, StoreRefusal};
 use store::slots::{Slot, SlotStore};
 use store::traits::Store;
+
+#[derive(Clone, Copy)]
+enum Command {
+    Put { board: usize, pick: u32 },
+    Keep { board: usize },
+    Discard { board: usize },
+    Standing { board: usize },
+    Pending { board: usize },
+    Spare,
+}
+
+// what a command that is not refused answers
+#[derive(Clone, Copy)]
+enum Answer {
+    Taken,
+    Stands { pick: u32 },
+    Pending { is: bool },
+    Spare { puts: usize },
+}
+
+impl fmt::Display for Answer {
+    fn fmt<W: fmt::Write>(&self, f: &mut fmt::Formatter<W>) -> fmt::Result {
+        match self {
+            Answer::Taken => f.write_str("taken 0"),
+            Answer::Stands { pick } => write!(f, "stands {pick}"),
+            Answer::Pending { is } => write!(f, "pending {}", u32::from(*is)),
+            Answer::Spare { puts } => write!(f, "spare {puts}"),
+        }
+    }
+}
 
 fn picked(pick: u32) -> Harness {
     Harness {
@@ -21,121 +52,116 @@ fn picked(pick: u32) -> Harness {
     }
 }
 
-fn done(res: Result<(), StoreRefusal>) -> (&'static str, u32) {
-    match res {
-        Ok(()) => ("taken", 0),
-        Err(refusal) => ("refused", refusal.number()),
-    }
-}
-
-fn stands(res: Result<Harness, StoreRefusal>) -> (&'static str, u32) {
-    match res {
-        Ok(state) => ("stands", state.pick),
-        Err(refusal) => ("refused", refusal.number()),
-    }
-}
-
-fn is_pending(res: Result<bool, StoreRefusal>) -> (&'static str, u32) {
-    match res {
-        Ok(pending) => ("pending", u32::from(pending)),
-        Err(refusal) => ("refused", refusal.number()),
-    }
-}
-
 // A word and up to two numbers.
 fn words(line: &str) -> anyhow::Result<(&str, usize, u32)> {
     let mut parts = line.split(' ');
     let word = parts.next().unwrap_or("");
-    let p = match parts.next() {
-        Some(text) => text.parse::<usize>()?,
-        None => 0,
-    };
-    let n = match parts.next() {
-        Some(text) => text.parse::<u32>()?,
-        None => 0,
-    };
-    Ok((word, p, n))
+    let first = parts.next().map_or(Ok(0), |text| text.parse::<usize>())?;
+    let second = parts.next().map_or(Ok(0), |text| text.parse::<u32>())?;
+    Ok((word, first, second))
 }
 
-// One command, for any store of harness records.
-fn command<S: Store<Record = Harness>>(
-    store: &mut S,
-    line: &str,
-) -> anyhow::Result<(&'static str, u32)> {
-    let (word, p, n) = words(line)?;
+fn read(line: &str) -> anyhow::Result<Command> {
+    let (word, board, pick) = words(line)?;
     match word {
-        "put" => Ok(done(store.put(p, picked(n)))),
-        "keep" => Ok(done(store.keep(p))),
-        "drop" => Ok(done(store.discard(p))),
-        "standing" => Ok(stands(store.standing(p))),
-        "pending" => Ok(is_pending(store.is_pending(p))),
-        "spare" => Ok(("spare", u32::try_from(store.spare())?)),
+        "put" => Ok(Command::Put { board, pick }),
+        "keep" => Ok(Command::Keep { board }),
+        "drop" => Ok(Command::Discard { board }),
+        "standing" => Ok(Command::Standing { board }),
+        "pending" => Ok(Command::Pending { board }),
+        "spare" => Ok(Command::Spare),
         _ => Err(anyhow!("no such command")),
     }
 }
 
-fn makes(line: &str) -> bool {
-    line.starts_with("slots ") || line.starts_with("journal ")
-}
-
-// The commands after a store was made, up to the next one that makes a store.
-fn commands<S: Store<Record = Harness>>(
-    rt: &HostRuntime,
+// Does one command to any store of harness records.
+fn answer_to<S: Store<Record = Harness>>(
     store: &mut S,
-    lines: &[String],
-) -> anyhow::Result<()> {
-    for line in lines {
-        if makes(line.as_str()) {
-            return Ok(());
-        }
-        let (word, n) = command(store, line.as_str())?;
-        println!(rt; "{line}: {word} {n}")?;
+    command: Command,
+) -> Result<Answer, StoreRefusal> {
+    match command {
+        Command::Put { board, pick } => store.put(board, picked(pick)).map(|()| Answer::Taken),
+        Command::Keep { board } => store.keep(board).map(|()| Answer::Taken),
+        Command::Discard { board } => store.discard(board).map(|()| Answer::Taken),
+        Command::Standing { board } => store
+            .standing(board)
+            .map(|state| Answer::Stands { pick: state.pick }),
+        Command::Pending { board } => store.is_pending(board).map(|is| Answer::Pending { is }),
+        Command::Spare => Ok(Answer::Spare {
+            puts: store.spare(),
+        }),
     }
+}
+
+// the kinds of store
+#[derive(Clone, Copy)]
+enum Kind {
+    Slots,
+    Journal,
+}
+
+// The kind of store that a line makes, if it makes one.
+fn made_by(line: &str) -> Option<Kind> {
+    if line.starts_with("slots ") {
+        Some(Kind::Slots)
+    } else if line.starts_with("journal ") {
+        Some(Kind::Journal)
+    } else {
+        None
+    }
+}
+
+fn refused(rt: &HostRuntime, line: &str, number: u32) -> anyhow::Result<()> {
+    println!(rt; "{line}: refused {number}")?;
     Ok(())
 }
 
-fn refused(rt: &HostRuntime, line: &str, refusal: MakeRefusal) -> anyhow::Result<()> {
-    let n = refusal.number();
-    println!(rt; "{line}: refused {n}")?;
-    Ok(())
-}
-
-fn made<S: Store<Record = Harness>>(
+// A store that was made or refused, and the commands that follow, up to the next line that makes one.
+fn cases<S: Store<Record = Harness> + Drop>(
     rt: &HostRuntime,
-    store: &mut S,
     line: &str,
+    made: Result<S, MakeRefusal>,
     rest: &[String],
 ) -> anyhow::Result<()> {
-    let count = store.boards();
-    println!(rt; "{line}: made {count}")?;
-    commands(rt, store, rest)
-}
-
-fn slots(rt: &HostRuntime, line: &str, rest: &[String]) -> anyhow::Result<()> {
-    let (_, places, boards) = words(line)?;
-    let any = Slot {
-        taken: true,
-        state: picked(77),
+    let mut store = match made {
+        Ok(store) => store,
+        Err(refusal) => return refused(rt, line, refusal.number()),
     };
-    let mut memory = vec![in rt.alloc(); any; places]?;
-    match SlotStore::new(&mut memory, boards as usize) {
-        Ok(mut store) => made(rt, &mut store, line, rest),
-        Err(refusal) => refused(rt, line, refusal),
+    println!(rt; "{line}: made {}", store.boards())?;
+    for line in rest
+        .iter()
+        .take_while(|line| made_by(line.as_str()).is_none())
+    {
+        match answer_to(&mut store, read(line.as_str())?) {
+            Ok(answer) => println!(rt; "{line}: {answer}")?,
+            Err(refusal) => refused(rt, line.as_str(), refusal.number())?,
+        }
     }
+    Ok(())
 }
 
-fn journal(rt: &HostRuntime, line: &str, rest: &[String]) -> anyhow::Result<()> {
+// Makes the store that a line asks for, in memory that other records lie in, and runs the commands that follow.
+fn make(rt: &HostRuntime, kind: Kind, line: &str, rest: &[String]) -> anyhow::Result<()> {
     let (_, places, boards) = words(line)?;
-    let any = Entry {
-        board: 0,
-        kind: EntryKind::Put,
-        state: picked(77),
-        back: 0,
-    };
-    let mut memory = vec![in rt.alloc(); any; places]?;
-    match Journal::new(&mut memory, boards as usize) {
-        Ok(mut store) => made(rt, &mut store, line, rest),
-        Err(refusal) => refused(rt, line, refusal),
+    match kind {
+        Kind::Slots => {
+            let any = Slot {
+                taken: true,
+                state: picked(77),
+            };
+            let mut memory = vec![in rt.alloc(); any; places]?;
+            cases(rt, line, SlotStore::new(&mut memory, boards as usize), rest)
+        }
+        Kind::Journal => {
+            let any = Entry {
+                board: 0,
+                kind: EntryKind::Put,
+                state: picked(77),
+                back: 0,
+            };
+            let mut memory = vec![in rt.alloc(); any; places]?;
+            cases(rt, line, Journal::new(&mut memory, boards as usize), rest)
+        }
     }
 }
 
@@ -144,12 +170,9 @@ fn run(rt: &HostRuntime) -> anyhow::Result<()> {
     for line in rt.lines(rt.alloc()) {
         lines.push(line?)?;
     }
-    for i in 0..lines.len() {
-        let line = lines[i].as_str();
-        if line.starts_with("slots ") {
-            slots(rt, line, &lines[i + 1..])?;
-        } else if line.starts_with("journal ") {
-            journal(rt, line, &lines[i + 1..])?;
+    for (i, line) in lines.iter().enumerate() {
+        if let Some(kind) = made_by(line.as_str()) {
+            make(rt, kind, line.as_str(), &lines[i + 1..])?;
         }
     }
     Ok(())
