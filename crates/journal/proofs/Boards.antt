@@ -1,28 +1,23 @@
 -- The list of all boards, by a function of the board. Assumes nothing.
-use Rattle.std.proofs.Common.{◌≡◌, ℕ, zero, suc, ◌+◌, ◌<◌, ◌≤◌, List, [], ◌∷◌, map, is_some, Some, None, sum_by, sym, refl, ap, ◌∙◌, arith}
+use Rattle.std.proofs.Common.{◌≡◌, ℕ, zero, suc, ◌+◌, ◌<◌, ◌≤◌, List, ◌∷◌, map, get_or, is_some, Some, None, sum_by, sym, refl, ap, ◌∙◌, arith}
 use Rattle.std.specs.List.{slice_get, range_with_len}
-use Rattle.std.proofs.lemmas.List.Sums.{sum_by-cons}
+use Rattle.std.proofs.lemmas.List.Sums.{sum_by-set, get_or-le-sum_by}
+use Rattle.std.proofs.lemmas.List.FromFn.{length-map-range_with_len, get_or-map-range_with_len}
+use Rattle.std.proofs.lemmas.Option.{slice_get-get_or, slice_get_past, slice_get_within, get_or_from_slice_get}
+use Rattle.store.proofs.Pairs.{updated_at}
 use Rattle.std.specs.List.{count_by}
 use Rattle.std.proofs.lemmas.List.Folds.{fold-map}
 use Rattle.store.specs.Meaning.{Kept, updated}
 use Rattle.journal.specs.Logs.{pending_one}
 
 module _ {A : Type 0} where
-  nth_from : (f : ℕ → A) (a n p q : ℕ) → p < n → a + p ≡ q → slice_get (map f (range_with_len a n)) p ≡ Some (f q)
-  nth_from f a zero p q h e = absurd (omega arith)
-  nth_from f a (suc n) zero q h e = ap (λ k. Some (f k)) (omega arith)
-  nth_from f a (suc n) (suc p) q h e = nth_from f (a + 1) n p q (omega arith) (omega arith)
-
   pub nth_board : (f : ℕ → A) (n p : ℕ) → p < n → slice_get (map f (range_with_len 0 n)) p ≡ Some (f p)
-  nth_board f n p h = nth_from f 0 n p p h (omega arith)
-
-  nth_past : (f : ℕ → A) (a n p : ℕ) → n ≤ p → slice_get (map f (range_with_len a n)) p ≡ None
-  nth_past f a zero p h = refl
-  nth_past f a (suc n) zero h = absurd (omega arith)
-  nth_past f a (suc n) (suc p) h = nth_past f (a + 1) n p (omega arith)
+  nth_board f n p h =
+      slice_get-get_or (map f (range_with_len 0 n)) p (f p) (omega (arith, length-map-range_with_len f 0 n))
+      ∙ ap (λ x. Some x) (get_or-map-range_with_len f 0 n p p (f p) h (omega arith))
 
   pub no_board : (f : ℕ → A) (n p : ℕ) → n ≤ p → slice_get (map f (range_with_len 0 n)) p ≡ None
-  no_board f n p h = nth_past f 0 n p h
+  no_board f n p h = slice_get_past (map f (range_with_len 0 n)) p (omega (arith, length-map-range_with_len f 0 n))
 
   map_same : (f h : ℕ → A) (a n : ℕ) → ((q : ℕ) → a ≤ q → h q ≡ f q) → map h (range_with_len a n) ≡ map f (range_with_len a n)
   map_same f h a zero same = refl
@@ -45,28 +40,15 @@ module _ {A : Type 0} where
   -- a sum over all boards, after a change of one
   pub sum-updated : (w : A → ℕ) (g : A → A) (xs : List A) (p : ℕ) (x : A) → slice_get xs p ≡ Some x
       → sum_by w (updated g xs p) + w x ≡ sum_by w xs + w (g x)
-  sum-updated w g [] p x e = absurd (let z : ◌≡◌ {A = ℕ} 0 1 = cc in omega arith)
-  sum-updated w g (y ∷ ys) zero x e =
-      let same : y ≡ x = cc in
-      let wy = ap w same in
-      let wg = ap (λ z. w (g z)) same in
-      let was = sum_by-cons w y ys in
-      let is = sum_by-cons w (g y) ys in
-      omega (arith, wy, wg, was, is)
-  sum-updated w g (y ∷ ys) (suc p) x e =
-      let more = sum-updated w g ys p x e in
-      let was = sum_by-cons w y ys in
-      let is = sum_by-cons w y (updated g ys p) in
-      omega (arith, more, was, is)
+  sum-updated w g xs p x e =
+      let own : get_or xs p x ≡ x = get_or_from_slice_get xs p x x e in
+      (λ i. sum_by w (updated_at g xs p x e i) + w (sym own i)) ∙ sum_by-set w xs p (g x) x (slice_get_within xs p x e)
 
   -- one board's share of a sum
   pub sum_has : (w : A → ℕ) (xs : List A) (p : ℕ) (x : A) → slice_get xs p ≡ Some x → w x ≤ sum_by w xs
-  sum_has w [] p x e = absurd (let z : ◌≡◌ {A = ℕ} 0 1 = cc in omega arith)
-  sum_has w (y ∷ ys) zero x e =
-      let same : y ≡ x = cc in
-      let wy = ap w same in
-      omega (arith, wy, sum_by-cons w y ys)
-  sum_has w (y ∷ ys) (suc p) x e = let more = sum_has w ys p x e in omega (arith, more, sum_by-cons w y ys)
+  sum_has w xs p x e =
+      let own : get_or xs p x ≡ x = get_or_from_slice_get xs p x x e in
+      omega (arith, ap w own, get_or-le-sum_by w xs p x (slice_get_within xs p x e))
 
 -- how many boards have a record pending, counted board by board
 pub counted : {R : Type 0} (f : ℕ → Kept R) (bs : List ℕ) → count_by (λ b. is_some (f b).pending) bs ≡ sum_by pending_one (map f bs)

@@ -1,27 +1,14 @@
 -- The entries of a new journal. Assumes nothing.
-use Rattle.std.proofs.Common.{◌≡◌, ℕ, zero, suc, ◌+◌, ◌-◌, ◌/◌, ◌<◌, ◌≤◌, Bool, true, false, cond, ◌||◌, eqb, ltb, List, [], ◌∷◌, ◌++◌, map, length, get_or, take, drop, set, replicate, Some, None, fold, sum_by, sym, refl, ap, ◌∙◌, append_assoc, arith}
+use Rattle.std.proofs.Common.{◌≡◌, ℕ, zero, suc, ◌+◌, ◌-◌, ◌/◌, ◌≤◌, Bool, true, false, cond, eqb, List, ◌∷◌, ◌++◌, map, length, take, drop, replicate, None, fold, sum_by, refl, ap, ◌∙◌, arith}
 use Rattle.std.specs.List.{range_with_len}
-use Rattle.std.proofs.lemmas.List.FromFn.{length-map-range_with_len, map-range_with_len_more}
-use Rattle.std.proofs.lemmas.List.{set_at, take_at, drop_more, length-append, length-drop}
-use Rattle.std.proofs.lemmas.List.Sums.{sum_by-cons}
-use Rattle.std.proofs.lemmas.Bool.{cond-true, le-leb, ltb-false}
+use Rattle.std.proofs.lemmas.List.FromFn.{length-map-range_with_len}
+use Rattle.std.proofs.lemmas.List.{take_at, length-append, length-drop}
+use Rattle.std.proofs.lemmas.List.Folds.{sum_by-replicate}
+use Rattle.std.proofs.lemmas.Bool.{cond-true, le-leb}
 use Rattle.store.specs.Meaning.{Kept, fresh_meaning}
-use Rattle.store.specs.declared.refusal.MakeRefusal.TheVariants.{BadCount, BadRoom}
 use Rattle.journal.specs.Logs.{told, kept_of, pending_one}
-use Rattle.journal.specs.Journals.{pendings, roomy, kept_at, journal_meaning, first_entry, fresh_entries, journal_refused}
+use Rattle.journal.specs.Journals.{pendings, roomy, kept_at, journal_meaning, first_entry, fresh_entries}
 use Rattle.journal.specs.declared.entry.Entry.{Entry}
-
--- one board more
-pub fresh_more : {R : Type 0} (first : R) (xs : List (Entry R)) (n : ℕ) → n < length xs
-    → set (fresh_entries first n ++ drop n xs) n (first_entry first n) ≡ fresh_entries first (n + 1) ++ drop (n + 1) xs
-fresh_more first xs n h =
-    let f = first_entry first in
-    let front = fresh_entries first n in
-    let rest = drop (n + 1) xs in
-    ap (λ ys. set (front ++ ys) n (f n)) (drop_more xs n (f n) h)
-    ∙ set_at front (get_or xs n (f n)) rest (f n) n (length-map-range_with_len f 0 n)
-    ∙ sym (append_assoc front (f n ∷ []) rest)
-    ∙ ap (λ ys. ys ++ rest) (sym (map-range_with_len_more f 0 n n (omega arith)))
 
 -- a log of first entries keeps the first record standing, and none pending
 abbrev pub nothing : {R : Type 0} → R → Kept R
@@ -45,20 +32,15 @@ module _ {R : Type 0} (first : R) (xs : List (Entry R)) (n : ℕ) where
   kept_is : (p : ℕ) → kept_of first (take n (fresh_entries first n ++ drop n xs)) p ≡ nothing first
   kept_is p = ap (λ log. kept_of first log p) log_is ∙ kept_from first 0 n p
 
-  none_from : (f : ℕ → Kept R) → ((p : ℕ) → f p ≡ nothing first) → (a m : ℕ) → sum_by pending_one (map f (range_with_len a m)) ≡ 0
-  none_from f e a zero = refl
-  none_from f e a (suc m) =
-      let one : pending_one (f a) ≡ 0 = ap pending_one (e a) in
-      let more = none_from f e (a + 1) m in
-      omega (arith, one, more, sum_by-cons pending_one (f a) (map f (range_with_len (a + 1) m)))
-
   all_from : (f : ℕ → Kept R) → ((p : ℕ) → f p ≡ nothing first) → (a m : ℕ) → map f (range_with_len a m) ≡ replicate m (nothing first)
   all_from f e a zero = refl
   all_from f e a (suc m) = λ i. e a i ∷ all_from f e (a + 1) m i
 
   -- nothing is pending
   none_pending : pendings first (fresh_entries first n ++ drop n xs) n n ≡ 0
-  none_pending = none_from (kept_of first (take n (fresh_entries first n ++ drop n xs))) kept_is 0 n
+  none_pending =
+      ap (sum_by pending_one) (all_from (kept_of first (take n (fresh_entries first n ++ drop n xs))) kept_is 0 n)
+      ∙ sum_by-replicate pending_one n (nothing first) ∙ omega arith
 
   same_places : n ≤ length xs → length (fresh_entries first n ++ drop n xs) ≡ length xs
   same_places h =
@@ -78,12 +60,3 @@ module _ {R : Type 0} (first : R) (xs : List (Entry R)) (n : ℕ) where
         boards = all_from (kept_at first entries n n) (λ p. cond-true _ _ _ room ∙ kept_is p) 0 n i;
         spare = half i;
       }
-
--- a journal that is made has a place for each board
-room_refused : (a b c : Bool) → None ≡ cond a (Some BadCount) (cond (b || c) (Some BadRoom) None) → b ≡ false
-room_refused true b c e = absurd (let z : ◌≡◌ {A = ℕ} 0 1 = cc in omega arith)
-room_refused false true c e = absurd (let z : ◌≡◌ {A = ℕ} 0 1 = cc in omega arith)
-room_refused false false c e = refl
-
-pub made-fits : (places n : ℕ) → None ≡ journal_refused places n → n ≤ places
-made-fits places n e = ltb-false places n (room_refused (eqb n 0 || ltb 64 n) (ltb places n) (ltb 1024 places) e)

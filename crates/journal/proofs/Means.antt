@@ -1,9 +1,9 @@
 -- What put, keep and drop leave of a journal's meaning. Assumes nothing.
-use Rattle.std.proofs.Common.{◌≡◌, ◌≢◌, ℕ, ◌+◌, ◌-◌, ◌/◌, ◌<◌, ◌≤◌, true, false, cond, List, length, take, set, is_some, is_ok, Some, None, Ok, Option, sym, refl, ap, ◌∙◌, arith, length-set}
+use Rattle.std.proofs.Common.{◌≡◌, ◌≢◌, ℕ, ◌+◌, ◌-◌, ◌/◌, ◌<◌, ◌≤◌, Bool, true, false, cond, List, length, take, set, is_some, is_ok, Some, None, Ok, Option, sym, refl, ap, ◌∙◌, arith, length-set}
 use Rattle.std.proofs.lemmas.Bool.{leb-true, le-leb, cond-false, ne_eqb}
 use Rattle.store.specs.Meaning.{Kept, Answer, updated, putting, keeping, discarding, put_under, put_at, put_answer, put_after, keep_under, keep_at, keep_answer}
 use Rattle.journal.specs.Logs.{by_kind, kept_of, pending_one}
-use Rattle.journal.specs.Journals.{pendings, roomy, journal_meaning, ended_after}
+use Rattle.journal.specs.Journals.{pendings, roomy, journal_meaning, entry_of, ended_after}
 use Rattle.journal.specs.declared.entry.Entry.{Entry}
 use Rattle.journal.specs.declared.entry.EntryKind.{EntryKind}
 use Rattle.journal.specs.declared.entry.EntryKind.TheVariants.{First, Put, Keep, Discard}
@@ -19,50 +19,50 @@ module _ {R : Type 0} (first : R) (entries : List (Entry R)) (used n : ℕ) (e :
       ≡ record { boards = updated (by_kind e.kind e.state) (journal_meaning first entries used n).boards e.board; spare = spare }
   means room before then spare s = λ i. record { boards = boards_more first entries used n e room before then i; spare = s i }
 
-abbrev pub entry : {R : Type 0} → ℕ → EntryKind → R → ℕ → Entry R
-entry p kind r b = record { board = p; kind = kind; state = r; back = b }
+-- a call for a board, of which k is kept
+module _ {R : Type 0} (first : R) (entries : List (Entry R)) (used n p : ℕ) (within : p < n) (k : Kept R) (is : k ≡ kept_of first (take used entries) p) where
+  pending_is : (b : Bool) → is_some k.pending ≡ b → is_some (kept_of first (take used entries) p).pending ≡ b
+  pending_is b e = ap (λ (j : Kept R). is_some j.pending) (sym is) ∙ e
 
--- a call for a board, of whose kept records the pending one is there or not
-module _ {R : Type 0} (first : R) (entries : List (Entry R)) (used n p : ℕ) (within : p < n) where
   spare_left : ((journal_meaning first entries used n).spare ≡ 0 → ⊥) → used + pendings first entries used n + 2 ≤ length entries
   spare_left z = omega (arith, z)
 
   -- a pending record is one of those that are counted
-  pub place_left : roomy first entries used n ≡ true → is_some (kept_of first (take used entries) p).pending ≡ true → used < length entries
+  pub place_left : roomy first entries used n ≡ true → is_some k.pending ≡ true → used < length entries
   place_left room some =
-      let one : pending_one (kept_of first (take used entries) p) ≡ 1 = ap (λ b. cond b 1 0) some in
+      let one : pending_one (kept_of first (take used entries) p) ≡ 1 = ap (λ b. cond b 1 0) (pending_is true some) in
       let more = sum_has pending_one _ p _ (nth_board (kept_of first (take used entries)) n p within) in
       let fits = leb-true _ _ room in
       omega (arith, one, more, fits)
 
   good_under : (o : Option R) → is_some o ≡ true → Ok tt ≡ keep_under o
-  good_under None e = absurd (let z : ◌≡◌ {A = ℕ} 0 1 = cc in omega arith)
+  good_under None e = cc
   good_under (Some x) e = refl
 
   free_under : (s : ℕ) (o : Option R) → is_some o ≡ false → (s ≡ 0 → ⊥) → Ok tt ≡ put_under s o
   free_under s None e z = sym (cond-false _ _ _ (ne_eqb s 0 z))
-  free_under s (Some x) e z = absurd (let y : ◌≡◌ {A = ℕ} 0 1 = cc in omega arith)
+  free_under s (Some x) e z = cc
 
-  put_good : roomy first entries used n ≡ true → is_some (kept_of first (take used entries) p).pending ≡ false
+  put_good : roomy first entries used n ≡ true → is_some k.pending ≡ false
       → ((journal_meaning first entries used n).spare ≡ 0 → ⊥) → Ok tt ≡ put_answer (journal_meaning first entries used n) p
-  put_good room free z = free_under _ _ free z ∙ ap (put_at _) (sym (board_at first entries used n p room within))
+  put_good room free z = free_under _ _ (pending_is false free) z ∙ ap (put_at _) (sym (board_at first entries used n p room within))
 
-  keep_good : roomy first entries used n ≡ true → is_some (kept_of first (take used entries) p).pending ≡ true
+  keep_good : roomy first entries used n ≡ true → is_some k.pending ≡ true
       → Ok tt ≡ keep_answer (journal_meaning first entries used n) p
-  keep_good room some = good_under _ some ∙ ap keep_at (sym (board_at first entries used n p room within))
+  keep_good room some = good_under _ (pending_is true some) ∙ ap keep_at (sym (board_at first entries used n p room within))
 
-  module _ (r : R) (b : ℕ) where
+  module _ (r : R) where
     -- the meaning after put, and that every pending record still has its place
-    pub put_means : is_some (kept_of first (take used entries) p).pending ≡ false → ((journal_meaning first entries used n).spare ≡ 0 → ⊥)
-        → (journal_meaning first (set entries used (entry p Put r b)) (used + 1) n
+    pub put_means : is_some k.pending ≡ false → ((journal_meaning first entries used n).spare ≡ 0 → ⊥)
+        → (journal_meaning first (set entries used (entry_of p Put r (take used entries))) (used + 1) n
         ≡ put_after 1 (journal_meaning first entries used n) p r)
-        × (roomy first (set entries used (entry p Put r b)) (used + 1) n ≡ true)
+        × (roomy first (set entries used (entry_of p Put r (take used entries))) (used + 1) n ≡ true)
     put_means free z =
-        let e = entry p Put r b in
+        let e = entry_of p Put r (take used entries) in
         let left = spare_left z in
         let room : used < length entries = omega (arith, left) in
         let before : roomy first entries used n ≡ true = le-leb _ _ (omega (arith, left)) in
-        let none : pending_one (kept_of first (take used entries) p) ≡ 0 = ap (λ v. cond v 1 0) free in
+        let none : pending_one (kept_of first (take used entries) p) ≡ 0 = ap (λ v. cond v 1 0) (pending_is false free) in
         let count = count_more first entries used n e room within in
         let same = length-set entries used e in
         let then : roomy first (set entries used e) (used + 1) n ≡ true = le-leb _ _ (omega (arith, left, none, count, same)) in
@@ -73,16 +73,16 @@ module _ {R : Type 0} (first : R) (entries : List (Entry R)) (used n p : ℕ) (w
         )
 
     -- the two calls that end a pending record: one fewer is pending, and one place more is used
-    ends : (kind : EntryKind) → ((k : Kept R) → (by_kind kind r k).pending ≡ None)
-        → roomy first entries used n ≡ true → is_some (kept_of first (take used entries) p).pending ≡ true
-        → (journal_meaning first (set entries used (entry p kind r b)) (used + 1) n
+    ends : (kind : EntryKind) → ((j : Kept R) → (by_kind kind r j).pending ≡ None)
+        → roomy first entries used n ≡ true → is_some k.pending ≡ true
+        → (journal_meaning first (set entries used (entry_of p kind r (take used entries))) (used + 1) n
         ≡ record { boards = updated (by_kind kind r) (journal_meaning first entries used n).boards p; spare = (journal_meaning first entries used n).spare })
-        × (roomy first (set entries used (entry p kind r b)) (used + 1) n ≡ true)
+        × (roomy first (set entries used (entry_of p kind r (take used entries))) (used + 1) n ≡ true)
     ends kind over room some =
-        let e = entry p kind r b in
+        let e = entry_of p kind r (take used entries) in
         let fits = leb-true _ _ room in
         let free = place_left room some in
-        let one : pending_one (kept_of first (take used entries) p) ≡ 1 = ap (λ v. cond v 1 0) some in
+        let one : pending_one (kept_of first (take used entries) p) ≡ 1 = ap (λ v. cond v 1 0) (pending_is true some) in
         let none : pending_one (by_kind kind r (kept_of first (take used entries) p)) ≡ 0 =
         ap (λ (o : Option R). cond (is_some o) 1 0) (over (kept_of first (take used entries) p)) in
         let count = count_more first entries used n e free within in
@@ -91,16 +91,16 @@ module _ {R : Type 0} (first : R) (entries : List (Entry R)) (used n p : ℕ) (w
         (means first entries used n e free room then _ (omega (arith, fits, one, none, count, same)), then)
 
     pub end_means : (kind : EntryKind) → (kind ≢ First) × (kind ≢ Put)
-        → roomy first entries used n ≡ true → is_some (kept_of first (take used entries) p).pending ≡ true
-        → (journal_meaning first (set entries used (entry p kind r b)) (used + 1) n ≡ ended_after kind (journal_meaning first entries used n) p)
-        × (roomy first (set entries used (entry p kind r b)) (used + 1) n ≡ true)
-    end_means First k room some = absurd (k.0 refl)
-    end_means Put k room some = absurd (k.1 refl)
-    end_means Keep k room some =
+        → roomy first entries used n ≡ true → is_some k.pending ≡ true
+        → (journal_meaning first (set entries used (entry_of p kind r (take used entries))) (used + 1) n ≡ ended_after kind (journal_meaning first entries used n) p)
+        × (roomy first (set entries used (entry_of p kind r (take used entries))) (used + 1) n ≡ true)
+    end_means First t room some = absurd (t.0 refl)
+    end_means Put t room some = absurd (t.1 refl)
+    end_means Keep t room some =
         let m = journal_meaning first entries used n in
-        let done = ends Keep (λ k. refl) room some in
+        let done = ends Keep (λ j. refl) room some in
         (done.0 ∙ ap (λ (v : Answer). cond (is_ok v) (record { boards = updated keeping m.boards p; spare = m.spare }) m) (keep_good room some), done.1)
-    end_means Discard k room some =
+    end_means Discard t room some =
         let m = journal_meaning first entries used n in
-        let done = ends Discard (λ k. refl) room some in
+        let done = ends Discard (λ j. refl) room some in
         (done.0 ∙ ap (λ (v : Answer). cond (is_ok v) (record { boards = updated discarding m.boards p; spare = m.spare }) m) (keep_good room some), done.1)

@@ -1,8 +1,9 @@
 -- The pointers back of a log end at the board's first entry, and an appended entry keeps them so. Assumes nothing.
-use Rattle.std.proofs.Common.{◌≡◌, ◌≢◌, ℕ, zero, suc, ◌+◌, ◌<◌, Bool, true, false, cond, eqb, ◌⊎◌, List, [], ◌∷◌, ◌++◌, length, take, set, Some, None, sym, refl, ap, ◌∙◌, subst, inl, inr, ⊎_elim, arith}
+use Rattle.std.proofs.Common.{◌≡◌, ◌≢◌, ℕ, zero, suc, ◌+◌, ◌<◌, Bool, true, false, cond, eqb, ◌⊎◌, List, [], ◌∷◌, ◌++◌, length, take, set, Some, sym, refl, ap, ◌∙◌, subst, inl, inr, ⊎_elim, arith}
 use Rattle.std.specs.List.{slice_get}
 use Rattle.std.proofs.lemmas.Bool.{cases_lt, eqb-true, eq-eqb, cond-true}
 use Rattle.std.proofs.lemmas.List.{take_more_set}
+use Rattle.std.proofs.lemmas.Option.{slice_get_within, same_Some, none-some}
 use Rattle.journal.specs.Journals.{entry_of, first_entry, fresh_entries}
 use Rattle.journal.proofs.Boards.{nth_board, no_board}
 use Rattle.journal.specs.Logs.{latest_from}
@@ -34,7 +35,7 @@ latest_or p k i (x ∷ xs) = go (eqb x.board p) refl (latest_or p (cond (eqb x.b
 
 -- where the board has an entry, it is one of the log
 latest_has : {R : Type 0} (p k i : ℕ) (xs : List (Entry R)) (j : ℕ) → Stands xs p j → Found xs p i (latest_from p k i xs)
-latest_has p k i [] j s = absurd (let h = s.here in let z : ◌≡◌ {A = ℕ} 0 1 = cc in omega arith)
+latest_has p k i [] j s = cc
 latest_has p k i (x ∷ xs) zero s =
     let same : x ≡ s.entry = let h = s.here in cc in
     let own : x.board ≡ p = ap (λ (y : Entry _). y.board) same ∙ s.board in
@@ -73,13 +74,13 @@ module _ {R : Type 0} (log : List (Entry R)) (p : ℕ) where
 
 -- one entry more
 nth_before : {A : Type 0} (xs : List A) (y x : A) (i : ℕ) → slice_get xs i ≡ Some x → slice_get (xs ++ y ∷ []) i ≡ Some x
-nth_before [] y x i e = absurd (let z : ◌≡◌ {A = ℕ} 0 1 = cc in omega arith)
+nth_before [] y x i e = cc
 nth_before (z ∷ zs) y x zero e = e
 nth_before (z ∷ zs) y x (suc i) e = nth_before zs y x i e
 
 nth_cases : {A : Type 0} (xs : List A) (y x : A) (i : ℕ) → slice_get (xs ++ y ∷ []) i ≡ Some x → (slice_get xs i ≡ Some x) ⊎ ((i ≡ length xs) × (y ≡ x))
 nth_cases [] y x zero e = inr (refl, (let same : y ≡ x = cc in same))
-nth_cases [] y x (suc i) e = absurd (let z : ◌≡◌ {A = ℕ} 0 1 = cc in omega arith)
+nth_cases [] y x (suc i) e = cc
 nth_cases (z ∷ zs) y x zero e = inl e
 nth_cases (z ∷ zs) y x (suc i) e = ⊎_elim inl (λ b. inr (ap suc b.0, b.1)) (nth_cases zs y x i e)
 
@@ -91,12 +92,6 @@ points_more log e First p i b h = h
 points_more log e Put p i b h = (h.0, stands_more log e p b h.1)
 points_more log e Keep p i b h = (h.0, stands_more log e p b h.1)
 points_more log e Discard p i b h = (h.0, stands_more log e p b h.1)
-
--- a place that is found is within the log
-within : {R : Type 0} (log : List (Entry R)) (p i : ℕ) → Stands log p i → i < length log
-within [] p i s = absurd (let h = s.here in let z : ◌≡◌ {A = ℕ} 0 1 = cc in omega arith)
-within (x ∷ xs) p zero s = omega arith
-within (x ∷ xs) p (suc i) s = let m = within xs p i (record { entry = s.entry; here = s.here; board = s.board }) in omega arith
 
 pub threaded_more : {R : Type 0} (log : List (Entry R)) (n : ℕ) (e : Entry R) → Threaded log n → PointsBy e.kind log e.board (length log) e.back
     → Threaded (log ++ e ∷ []) n
@@ -117,7 +112,7 @@ latest_back log n p t l =
     let f = latest_has p (length log) 0 log (t.each p l).0 (t.each p l).1 in
     let same : f.0 ≡ latest_from p (length log) 0 log = omega (arith, f.1) in
     let s = subst (λ (k : ℕ). Stands log p k) same f.2 in
-    (within log p _ s, s)
+    (slice_get_within log _ s.entry s.here, s)
 
 pub traced : {R : Type 0} (log : List (Entry R)) (n : ℕ) → Threaded log n → Traced log n
 traced log n t = record { threads = t; ends = λ p i s. ends_first log p n i t s }
@@ -142,18 +137,12 @@ module _ {R : Type 0} (first : R) (entries : List (Entry R)) (used n p : ℕ) (r
       (threaded_more (take used entries) n e t (points_by kind k (length (take used entries)) _ (latest_back (take used entries) n p t l))))
 
 -- the entries of a new journal
-some_same : {A : Type 0} (x y : A) → Some x ≡ Some y → x ≡ y
-some_same x y e = cc
-
-none_not_some : {A : Type 0} {x : A} → None ≡ Some x → ⊥
-none_not_some e = let z : ◌≡◌ {A = ℕ} 0 1 = cc in omega arith
-
 pub threaded_fresh : {R : Type 0} (first : R) (n : ℕ) → Threaded (fresh_entries first n) n
 threaded_fresh first n = record {
   points = λ i e at. ⊎_elim
       (λ l. subst (λ (x : Entry _). PointsBy x.kind (fresh_entries first n) x.board i x.back)
-      (some_same (first_entry first i) e (sym (nth_board (first_entry first) n i l) ∙ at)) refl)
-      (λ l. absurd (none_not_some (sym (no_board (first_entry first) n i l) ∙ at)))
+      (same_Some (first_entry first i) e (sym (nth_board (first_entry first) n i l) ∙ at)) refl)
+      (λ l. absurd (none-some _ (sym (no_board (first_entry first) n i l) ∙ at)))
       (cases_lt i n);
   each = λ p l. (p, record { entry = first_entry first p; here = nth_board (first_entry first) n p l; board = refl });
 }

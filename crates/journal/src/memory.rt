@@ -30,7 +30,7 @@ impl<'a, R: Part> Journal<'a, R> {
     ghost use Rattle.std.specs.List.{slice_get};
     ghost use Rattle.std.specs.Result.{result_err};
     ghost use Rattle.journal.specs.Held.{meaning_of, log_of, with_entry, grown, Threading, Tracing};
-    ghost use Rattle.journal.specs.Logs.{as_kept, kept_of};
+    ghost use Rattle.journal.specs.Logs.{as_kept, kept_of, latest_from};
     ghost use Rattle.journal.specs.Journals.{entry_of, used_after, new_meaning, journal_refused, roomy, New, ended_after};
     ghost use Rattle.journal.specs.declared.entry.EntryKind.TheVariants.{First, Put};
     ghost use Rattle.store.specs.Meaning.{keep_answer};
@@ -73,6 +73,13 @@ impl<'a, R: Part> Journal<'a, R> {
         }
     }
 
+    // Where a new entry of the board points back to.
+    fn back(&self, board: usize) -> usize
+        ensures { result ≡ latest_from board (length (log_of self.now)) 0 (log_of self.now) }
+    {
+        latest_of(self.log(), board).unwrap_or(self.used)
+    }
+
     // Writes an entry into the first place that is not used.
     fn append(&mut self, board: usize, kind: EntryKind, state: R)
         requires kind { kind ≢ First }
@@ -84,18 +91,17 @@ impl<'a, R: Part> Journal<'a, R> {
         ensures stays { self.new.entries.ghost_name ≡ self.old.entries.ghost_name }
         ensures traced { Threading self.old → Tracing self.new }
     {
-        let back = latest_of(self.log(), board).unwrap_or(self.used);
         self.entries[self.used] = Entry {
             board,
             kind,
             state,
-            back,
+            back: self.back(board),
         };
         self.used += 1;
     }
 
     // Ends the board's pending record by an entry of this kind, which holds the first record.
-    #[tactic(auto, using(crate::proofs::Pointers::traced, crate::proofs::Means::place_left))]
+    #[tactic(auto, using(crate::proofs::Pointers::traced))]
     fn end(&mut self, board: usize, kind: EntryKind) -> Result<(), StoreRefusal>
         requires { (kind ≢ First) × (kind ≢ Put) }
         ensures answer { result ≡ keep_answer (meaning_of R.Part.rules.first self.old) board }

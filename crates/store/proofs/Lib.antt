@@ -1,3 +1,4 @@
 pub mod Pairs
 pub mod Slotted
 pub mod Fresh
+pub mod Filled
