@@ -21,16 +21,20 @@ module _ {R : Type 0} (first : R) (entries : List (Entry R)) (used n : ℕ) (e :
   kept_more : (q : ℕ) → kept_of first (take (used + 1) (set entries used e)) q ≡ told q (kept_of first (take used entries) q) e
   kept_more q = ap (λ log. kept_of first log q) log_more ∙ fold_push (told q) _ (take used entries) e
 
-  kept_own : kept_of first (take (used + 1) (set entries used e)) e.board ≡ by_kind e.kind e.state (kept_of first (take used entries) e.board)
+  kept_own : kept_of first (take (used + 1) (set entries used e)) e.board
+      ≡ by_kind e.kind e.state (kept_of first (take used entries) e.board)
   kept_own = kept_more e.board ∙ cond-true _ _ _ (eq-eqb e.board e.board refl)
 
-  kept_other : (q : ℕ) → (q ≡ e.board → ⊥) → kept_of first (take (used + 1) (set entries used e)) q ≡ kept_of first (take used entries) q
+  kept_other : (q : ℕ) → (q ≡ e.board → ⊥)
+      → kept_of first (take (used + 1) (set entries used e)) q ≡ kept_of first (take used entries) q
   kept_other q ne = kept_more q ∙ cond-false _ _ _ (ne_eqb e.board q (λ h. ne (sym h)))
 
   -- all boards, before any is counted out
-  all_more : kept_all first (take (used + 1) (set entries used e)) n ≡ updated (by_kind e.kind e.state) (kept_all first (take used entries) n) e.board
+  all_more : kept_all first (take (used + 1) (set entries used e)) n
+      ≡ updated (by_kind e.kind e.state) (kept_all first (take used entries) n) e.board
   all_more =
-      updated_board (kept_of first (take used entries)) (kept_of first (take (used + 1) (set entries used e))) (by_kind e.kind e.state) n e.board
+      updated_board (kept_of first (take used entries)) (kept_of first (take (used + 1) (set entries used e)))
+      (by_kind e.kind e.state) n e.board
       kept_other kept_own
 
   -- how many are pending
@@ -47,6 +51,7 @@ module _ {R : Type 0} (first : R) (entries : List (Entry R)) (used n : ℕ) (e :
       → map (kept_at first (set entries used e) (used + 1) n) (range_with_len 0 n)
       ≡ updated (by_kind e.kind e.state) (map (kept_at first entries used n) (range_with_len 0 n)) e.board
   boards_more before then =
-      updated_board (kept_at first entries used n) (kept_at first (set entries used e) (used + 1) n) (by_kind e.kind e.state) n e.board
+      updated_board (kept_at first entries used n) (kept_at first (set entries used e) (used + 1) n)
+      (by_kind e.kind e.state) n e.board
       (λ q ne. cond-true _ _ _ then ∙ kept_other q ne ∙ sym (cond-true _ _ _ before))
       (cond-true _ _ _ then ∙ kept_own ∙ ap (by_kind e.kind e.state) (sym (cond-true _ _ _ before)))

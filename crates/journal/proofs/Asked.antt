@@ -10,7 +10,8 @@ module _ {R : Type 0} (first : R) (entries : List (Entry R)) (used n p : ℕ) wh
   pub board_at : roomy first entries used n ≡ true → p < n
       → slice_get (journal_meaning first entries used n).boards p ≡ Some (kept_of first (take used entries) p)
   board_at room h =
-      boards.nth_board (kept_at first entries used n) n p h ∙ ap (λ b. Some (counted b (kept_of first (take used entries) p))) room
+      boards.nth_board (kept_at first entries used n) n p h
+      ∙ ap (λ b. Some (counted b (kept_of first (take used entries) p))) room
 
   pub no_board : n ≤ p → slice_get (journal_meaning first entries used n).boards p ≡ None
   no_board h = boards.no_board (kept_at first entries used n) n p h

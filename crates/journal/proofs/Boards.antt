@@ -1,14 +1,11 @@
 -- The list of all boards, by a function of the board. Assumes nothing.
-use Rattle.std.proofs.Common.{◌≡◌, ℕ, zero, suc, ◌+◌, ◌<◌, ◌≤◌, List, ◌∷◌, map, get_or, is_some, Some, None, sum_by, sym, refl, ap, ◌∙◌, arith}
+use Rattle.std.proofs.Common.{◌≡◌, ℕ, zero, suc, ◌+◌, ◌<◌, ◌≤◌, List, ◌∷◌, map, get_or, Some, None, sum_by, sym, refl, ap, ◌∙◌, arith}
 use Rattle.std.specs.List.{slice_get, range_with_len}
 use Rattle.std.proofs.lemmas.List.Sums.{sum_by-set, get_or-le-sum_by}
 use Rattle.std.proofs.lemmas.List.FromFn.{length-map-range_with_len, get_or-map-range_with_len}
 use Rattle.std.proofs.lemmas.Option.{slice_get-get_or, slice_get_past, slice_get_within, get_or_from_slice_get}
 use Rattle.store.proofs.Pairs.{updated_at}
-use Rattle.std.specs.List.{count_by}
-use Rattle.std.proofs.lemmas.List.Folds.{fold-map}
-use Rattle.store.specs.Meaning.{Kept, updated}
-use Rattle.journal.specs.Logs.{pending_one}
+use Rattle.store.specs.Meaning.{updated}
 
 module _ {A : Type 0} where
   pub nth_board : (f : ℕ → A) (n p : ℕ) → p < n → slice_get (map f (range_with_len 0 n)) p ≡ Some (f p)
@@ -49,7 +46,3 @@ module _ {A : Type 0} where
   sum_has w xs p x e =
       let own : get_or xs p x ≡ x = get_or_from_slice_get xs p x x e in
       omega (arith, ap w own, get_or-le-sum_by w xs p x (slice_get_within xs p x e))
-
--- how many boards have a record pending, counted board by board
-pub counted : {R : Type 0} (f : ℕ → Kept R) (bs : List ℕ) → count_by (λ b. is_some (f b).pending) bs ≡ sum_by pending_one (map f bs)
-counted f bs = sym (fold-map (λ a k. a + pending_one k) f 0 bs)

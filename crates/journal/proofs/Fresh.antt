@@ -20,10 +20,12 @@ told-first first p q = go (eqb q p) where
   go true = refl
   go false = refl
 
-kept_from : {R : Type 0} (first : R) (a n p : ℕ) → fold (told p) (nothing first) (map (first_entry first) (range_with_len a n)) ≡ nothing first
+kept_from : {R : Type 0} (first : R) (a n p : ℕ)
+    → fold (told p) (nothing first) (map (first_entry first) (range_with_len a n)) ≡ nothing first
 kept_from first a zero p = refl
 kept_from first a (suc n) p =
-    ap (λ k. fold (told p) k (map (first_entry first) (range_with_len (a + 1) n))) (told-first first p a) ∙ kept_from first (a + 1) n p
+    ap (λ k. fold (told p) k (map (first_entry first) (range_with_len (a + 1) n))) (told-first first p a)
+    ∙ kept_from first (a + 1) n p
 
 module _ {R : Type 0} (first : R) (xs : List (Entry R)) (n : ℕ) where
   pub log_is : take n (fresh_entries first n ++ drop n xs) ≡ fresh_entries first n
@@ -32,7 +34,8 @@ module _ {R : Type 0} (first : R) (xs : List (Entry R)) (n : ℕ) where
   kept_is : (p : ℕ) → kept_of first (take n (fresh_entries first n ++ drop n xs)) p ≡ nothing first
   kept_is p = ap (λ log. kept_of first log p) log_is ∙ kept_from first 0 n p
 
-  all_from : (f : ℕ → Kept R) → ((p : ℕ) → f p ≡ nothing first) → (a m : ℕ) → map f (range_with_len a m) ≡ replicate m (nothing first)
+  all_from : (f : ℕ → Kept R) → ((p : ℕ) → f p ≡ nothing first) → (a m : ℕ)
+      → map f (range_with_len a m) ≡ replicate m (nothing first)
   all_from f e a zero = refl
   all_from f e a (suc m) = λ i. e a i ∷ all_from f e (a + 1) m i
 
@@ -44,18 +47,21 @@ module _ {R : Type 0} (first : R) (xs : List (Entry R)) (n : ℕ) where
 
   same_places : n ≤ length xs → length (fresh_entries first n ++ drop n xs) ≡ length xs
   same_places h =
-      length-append (fresh_entries first n) (drop n xs) ∙ (λ i. length-map-range_with_len (first_entry first) 0 n i + length-drop n xs i) ∙ omega arith
+      length-append (fresh_entries first n) (drop n xs)
+      ∙ (λ i. length-map-range_with_len (first_entry first) 0 n i + length-drop n xs i) ∙ omega arith
 
   pub fresh_roomy : n ≤ length xs → roomy first (fresh_entries first n ++ drop n xs) n n ≡ true
   fresh_roomy h = let long = same_places h in le-leb _ _ (omega (arith, none_pending, long))
 
   -- a new journal means the first record standing everywhere, none pending, and a spare of half the places left
-  pub fresh_means : n ≤ length xs → journal_meaning first (fresh_entries first n ++ drop n xs) n n ≡ fresh_meaning first ((length xs - n) / 2) n
+  pub fresh_means : n ≤ length xs → journal_meaning first (fresh_entries first n ++ drop n xs) n n
+      ≡ fresh_meaning first ((length xs - n) / 2) n
   fresh_means h =
       let entries = fresh_entries first n ++ drop n xs in
       let long = same_places h in
       let room = fresh_roomy h in
-      let half : (length entries - n - pendings first entries n n) / 2 ≡ (length xs - n) / 2 = ap (λ j. j / 2) (omega (arith, none_pending, long)) in
+      let half : (length entries - n - pendings first entries n n) / 2 ≡ (length xs - n) / 2 =
+      ap (λ j. j / 2) (omega (arith, none_pending, long)) in
       λ i. record {
         boards = all_from (kept_at first entries n n) (λ p. cond-true _ _ _ room ∙ kept_is p) 0 n i;
         spare = half i;

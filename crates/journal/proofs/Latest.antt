@@ -10,7 +10,8 @@ module _ {R : Type 0} (p : ℕ) where
   none_from : (log : List (Entry R)) (k i : ℕ) → NoneOf p log → latest_from p k i log ≡ k
   none_from [] k i none = refl
   none_from (x ∷ xs) k i none =
-      ap (λ j. latest_from p j (i + 1) xs) (cond-false _ i k (ne_eqb x.board p (none 0))) ∙ none_from xs k (i + 1) (λ j. none (suc j))
+      ap (λ j. latest_from p j (i + 1) xs) (cond-false _ i k (ne_eqb x.board p (none 0)))
+      ∙ none_from xs k (i + 1) (λ j. none (suc j))
 
   found_from : (log : List (Entry R)) (k i j : ℕ) → LatestAt p log j → latest_from p k i log ≡ i + j
   found_from [] k i j found = absurd found.0
@@ -20,6 +21,7 @@ module _ {R : Type 0} (p : ℕ) where
   found_from (x ∷ xs) k i (suc j) found =
       found_from xs (cond (eqb x.board p) i k) (i + 1) j (found.0, λ m l. found.1 (suc m) (omega arith)) ∙ omega arith
 
-  pub latest_is : (log : List (Entry R)) (k : ℕ) (o : Option ℕ) → MatchOption o (NoneOf p log) (LatestAt p log) → unwrap_or o k ≡ latest_from p k 0 log
+  pub latest_is : (log : List (Entry R)) (k : ℕ) (o : Option ℕ) → MatchOption o (NoneOf p log) (LatestAt p log)
+      → unwrap_or o k ≡ latest_from p k 0 log
   latest_is log k None none = sym (none_from log k 0 none)
   latest_is log k (Some j) found = let start : 0 + j ≡ j = omega arith in sym (found_from log k 0 j found ∙ start)

@@ -43,7 +43,8 @@ latest_has p k i (x ∷ xs) zero s =
     subst (λ (k' : ℕ). Found (x ∷ xs) p i (latest_from p k' (i + 1) xs)) (sym start)
     (⊎_elim (here_at x xs p i _ own) (shifted x xs p i _) (latest_or p i (i + 1) xs))
 latest_has p k i (x ∷ xs) (suc j) s =
-    shifted x xs p i _ (latest_has p (cond (eqb x.board p) i k) (i + 1) xs j (record { entry = s.entry; here = s.here; board = s.board }))
+    shifted x xs p i _
+    (latest_has p (cond (eqb x.board p) i k) (i + 1) xs j (record { entry = s.entry; here = s.here; board = s.board }))
 
 -- followed back, the pointers end at the board's first entry
 module _ {R : Type 0} (log : List (Entry R)) (p : ℕ) where
@@ -78,7 +79,8 @@ nth_before [] y x i e = cc
 nth_before (z ∷ zs) y x zero e = e
 nth_before (z ∷ zs) y x (suc i) e = nth_before zs y x i e
 
-nth_cases : {A : Type 0} (xs : List A) (y x : A) (i : ℕ) → slice_get (xs ++ y ∷ []) i ≡ Some x → (slice_get xs i ≡ Some x) ⊎ ((i ≡ length xs) × (y ≡ x))
+nth_cases : {A : Type 0} (xs : List A) (y x : A) (i : ℕ) → slice_get (xs ++ y ∷ []) i ≡ Some x
+    → (slice_get xs i ≡ Some x) ⊎ ((i ≡ length xs) × (y ≡ x))
 nth_cases [] y x zero e = inr (refl, (let same : y ≡ x = cc in same))
 nth_cases [] y x (suc i) e = cc
 nth_cases (z ∷ zs) y x zero e = inl e
@@ -87,13 +89,15 @@ nth_cases (z ∷ zs) y x (suc i) e = ⊎_elim inl (λ b. inr (ap suc b.0, b.1)) 
 stands_more : {R : Type 0} (log : List (Entry R)) (e : Entry R) (p i : ℕ) → Stands log p i → Stands (log ++ e ∷ []) p i
 stands_more log e p i s = record { entry = s.entry; here = nth_before log e s.entry i s.here; board = s.board }
 
-points_more : {R : Type 0} (log : List (Entry R)) (e : Entry R) (kind : EntryKind) (p i b : ℕ) → PointsBy kind log p i b → PointsBy kind (log ++ e ∷ []) p i b
+points_more : {R : Type 0} (log : List (Entry R)) (e : Entry R) (kind : EntryKind) (p i b : ℕ)
+    → PointsBy kind log p i b → PointsBy kind (log ++ e ∷ []) p i b
 points_more log e First p i b h = h
 points_more log e Put p i b h = (h.0, stands_more log e p b h.1)
 points_more log e Keep p i b h = (h.0, stands_more log e p b h.1)
 points_more log e Discard p i b h = (h.0, stands_more log e p b h.1)
 
-pub threaded_more : {R : Type 0} (log : List (Entry R)) (n : ℕ) (e : Entry R) → Threaded log n → PointsBy e.kind log e.board (length log) e.back
+pub threaded_more : {R : Type 0} (log : List (Entry R)) (n : ℕ) (e : Entry R) → Threaded log n
+    → PointsBy e.kind log e.board (length log) e.back
     → Threaded (log ++ e ∷ []) n
 threaded_more log n e t h = record {
   points = λ i x at. ⊎_elim
@@ -122,7 +126,8 @@ module _ {R : Type 0} (first : R) (entries : List (Entry R)) (used n p : ℕ) (r
   log : List (Entry R)
   log = take used entries
 
-  points_by : (kind : EntryKind) → kind ≢ First → (i b : ℕ) → (b < i) × Stands (take used entries) p b → PointsBy kind (take used entries) p i b
+  points_by : (kind : EntryKind) → kind ≢ First → (i b : ℕ) → (b < i) × Stands (take used entries) p b
+      → PointsBy kind (take used entries) p i b
   points_by First k i b h = absurd (k refl)
   points_by Put k i b h = h
   points_by Keep k i b h = h
@@ -134,7 +139,8 @@ module _ {R : Type 0} (first : R) (entries : List (Entry R)) (used n p : ℕ) (r
       let e = entry_of p kind r (take used entries) in
       subst (λ (xs : List (Entry R)). Traced xs n) (sym (take_more_set entries used e room))
       (traced (take used entries ++ e ∷ []) n
-      (threaded_more (take used entries) n e t (points_by kind k (length (take used entries)) _ (latest_back (take used entries) n p t l))))
+      (threaded_more (take used entries) n e t
+      (points_by kind k (length (take used entries)) _ (latest_back (take used entries) n p t l))))
 
 -- the entries of a new journal
 pub threaded_fresh : {R : Type 0} (first : R) (n : ℕ) → Threaded (fresh_entries first n) n

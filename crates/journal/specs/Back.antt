@@ -15,4 +15,6 @@ step Discard kept r sought found = sought
 abbrev pub latest_kept : {R : Type 0} → R → ℕ → Bool → List (Entry R) → R
 latest_kept first p kept [] = first
 latest_kept first p kept (e ∷ es) =
-    cond (e.board == p) (step e.kind kept e.state (latest_kept first p false es) (latest_kept first p true es)) (latest_kept first p kept es)
+    cond (e.board == p)
+    (step e.kind kept e.state (latest_kept first p false es) (latest_kept first p true es))
+    (latest_kept first p kept es)

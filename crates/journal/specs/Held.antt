@@ -1,8 +1,9 @@
 -- A journal as code holds it: its memory, how many places are used, how many boards it has.
-use Rattle.std.specs.Prelude.{ℕ, List, take, Result, slice_set}
+use Rattle.std.specs.Prelude.{◌≡◌, ℕ, ◌+◌, true, List, take, Option, Result, slice_set}
+use Rattle.std.specs.List.{slice_get}
 use Rattle.records.specs.declared.part.Part.{Ghosts}
-use Rattle.store.specs.Meaning.{Meaning}
-use Rattle.journal.specs.Journals.{journal_meaning, appended, entry_of}
+use Rattle.store.specs.Meaning.{Kept, Meaning}
+use Rattle.journal.specs.Journals.{journal_meaning, roomy, appended, entry_of}
 use Rattle.journal.specs.Pointers.{Threaded, Traced}
 use Rattle.journal.specs.declared.entry.Entry.{Entry}
 use Rattle.journal.specs.declared.entry.EntryKind.{EntryKind}
@@ -10,8 +11,12 @@ use Rattle.journal.specs.declared.memory.Journal.{Journal}
 
 module _ {R : Type 0} {part : Ghosts R} where
   -- what it means
-  abbrev pub meaning_of : R → Journal R part → Meaning R
-  meaning_of first j = journal_meaning first j.entries.now j.used j.boards
+  abbrev pub meaning_of : Journal R part → Meaning R
+  meaning_of j = journal_meaning part.rules.first j.entries.now j.used j.boards
+
+  -- what is kept of a board, if it is one
+  abbrev pub board_of : Journal R part → ℕ → Option (Kept R)
+  board_of j p = slice_get (meaning_of j).boards p
 
   -- the entries that are used
   abbrev pub log_of : Journal R part → List (Entry R)
@@ -21,9 +26,13 @@ module _ {R : Type 0} {part : Ghosts R} where
   abbrev pub with_entry : Journal R part → ℕ → EntryKind → R → List (Entry R)
   with_entry j p kind r = slice_set j.entries.now j.used (entry_of p kind r (log_of j))
 
-  -- its memory after a call that appends this entry, or is refused
-  abbrev pub grown : {V E : Type 0} → Result V E → Journal R part → Entry R → List (Entry R)
-  grown r j e = appended r j.entries.now j.used e
+  -- with that entry used, every pending record has a place left for the entry that ends it
+  abbrev pub HasRoomFor : Journal R part → ℕ → EntryKind → R → Type 0
+  HasRoomFor j p kind r = roomy part.rules.first (with_entry j p kind r) (j.used + 1) j.boards ≡ true
+
+  -- its memory after a call that appends such an entry, or is refused
+  abbrev pub grown : {V E : Type 0} → Result V E → Journal R part → ℕ → EntryKind → R → List (Entry R)
+  grown result j p kind r = appended result j.entries.now j.used (entry_of p kind r (log_of j))
 
   -- its pointers are as they should be
   abbrev pub Threading : Journal R part → Type 0

@@ -72,7 +72,8 @@ prepared first entries n None = fresh_entries first n ++ drop n entries
 prepared first entries n (Some why) = entries
 
 -- a new journal: the whole memory, with the boards' first entries used
-pub record New {R : Type 0} (first : R) (was : List (Entry R)) (n : ℕ) (entries : List (Entry R)) (used boards : ℕ) : Type 0 where
+pub record New {R : Type 0} (first : R) (was : List (Entry R)) (n : ℕ)
+    (entries : List (Entry R)) (used boards : ℕ) : Type 0 where
   pub memory : entries ≡ fresh_entries first n ++ drop n was
   pub count : used ≡ n
   pub all : boards ≡ n

@@ -56,4 +56,6 @@ NoneOf p log = (k : ℕ) → IfSome (slice_get log k) (λ e. e.board ≢ p)
 
 -- this place has an entry of the board, and no later one has
 abbrev pub LatestAt : {R : Type 0} → ℕ → List (Entry R) → ℕ → Type 0
-LatestAt p log i = IsSomeAnd (slice_get log i) (λ e. e.board ≡ p) × ((k : ℕ) → i < k → IfSome (slice_get log k) (λ e. e.board ≢ p))
+LatestAt p log i =
+    IsSomeAnd (slice_get log i) (λ e. e.board ≡ p)
+    × ((k : ℕ) → i < k → IfSome (slice_get log k) (λ e. e.board ≢ p))

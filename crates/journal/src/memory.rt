@@ -27,11 +27,10 @@ pub struct Journal<'a, R: Part> {
 
 impl<'a, R: Part> Journal<'a, R> {
     ghost use Rattle.std.specs.Prelude.{◌≡◌, ◌≢◌, ◌+◌, ◌<◌, true, length, Some, None, IfOk, IfErr, OnOk};
-    ghost use Rattle.std.specs.List.{slice_get};
     ghost use Rattle.std.specs.Result.{result_err};
-    ghost use Rattle.journal.specs.Held.{meaning_of, log_of, with_entry, grown, Threading, Tracing};
+    ghost use Rattle.journal.specs.Held.{meaning_of, board_of, log_of, with_entry, HasRoomFor, grown, Threading, Tracing};
     ghost use Rattle.journal.specs.Logs.{as_kept, kept_of, latest_from};
-    ghost use Rattle.journal.specs.Journals.{entry_of, used_after, new_meaning, journal_refused, roomy, New, ended_after};
+    ghost use Rattle.journal.specs.Journals.{used_after, new_meaning, journal_refused, New, ended_after};
     ghost use Rattle.journal.specs.declared.entry.EntryKind.TheVariants.{First, Put};
     ghost use Rattle.store.specs.Meaning.{keep_answer};
     ghost use Rattle.store.specs.declared.refusal.StoreRefusal.TheVariants.{BadBoard};
@@ -40,7 +39,7 @@ impl<'a, R: Part> Journal<'a, R> {
     pub fn new(entries: &'a mut [Entry<R>], boards: usize) -> Result<Journal<'a, R>, MakeRefusal>
         ensures answer { result_err result ≡ journal_refused (length entries.old) boards }
         ensures places { IfOk result (λ s. New R.Part.rules.first entries.old boards s.entries.now s.used s.boards) }
-        ensures fresh { IfOk result (λ s. meaning_of R.Part.rules.first s ≡ new_meaning R.Part.rules.first (length entries.old) boards) }
+        ensures fresh { IfOk result (λ s. meaning_of s ≡ new_meaning R.Part.rules.first (length entries.old) boards) }
         ensures traced { IfOk result Tracing }
     {
         prepare(entries, boards)?;
@@ -63,8 +62,8 @@ impl<'a, R: Part> Journal<'a, R> {
     fn kept(&self, board: usize) -> Result<Kept<R>, StoreRefusal>
         ensures within { OnOk result (board < self.now.boards) }
         ensures by_log { IfOk result (λ k. as_kept k ≡ kept_of R.Part.rules.first (log_of self.now) board) }
-        ensures kept { IfOk result (λ k. slice_get (meaning_of R.Part.rules.first self.now).boards board ≡ Some (as_kept k)) }
-        ensures none { IfErr result (λ why. (why ≡ BadBoard) × (slice_get (meaning_of R.Part.rules.first self.now).boards board ≡ None)) }
+        ensures kept { IfOk result (λ k. board_of self.now board ≡ Some (as_kept k)) }
+        ensures none { IfErr result (λ why. (why ≡ BadBoard) × (board_of self.now board ≡ None)) }
     {
         if board < self.boards {
             Ok(kept_in(self.log(), board))
@@ -85,7 +84,7 @@ impl<'a, R: Part> Journal<'a, R> {
         requires kind { kind ≢ First }
         requires within { board < self.old.boards }
         requires free { self.old.used < length self.old.entries.now }
-        requires room { roomy R.Part.rules.first (with_entry self.old board kind state) (self.old.used + 1) self.old.boards ≡ true }
+        requires room { HasRoomFor self.old board kind state }
         ensures memory { self.new.entries.now ≡ with_entry self.old board kind state }
         ensures numbers { (self.new.used ≡ self.old.used + 1) × (self.new.boards ≡ self.old.boards) }
         ensures stays { self.new.entries.ghost_name ≡ self.old.entries.ghost_name }
@@ -104,9 +103,9 @@ impl<'a, R: Part> Journal<'a, R> {
     #[tactic(auto, using(crate::proofs::Pointers::traced))]
     fn end(&mut self, board: usize, kind: EntryKind) -> Result<(), StoreRefusal>
         requires { (kind ≢ First) × (kind ≢ Put) }
-        ensures answer { result ≡ keep_answer (meaning_of R.Part.rules.first self.old) board }
-        ensures after { meaning_of R.Part.rules.first self.new ≡ ended_after kind (meaning_of R.Part.rules.first self.old) board }
-        ensures memory { self.new.entries.now ≡ grown result self.old (entry_of board kind R.Part.rules.first (log_of self.old)) }
+        ensures answer { result ≡ keep_answer (meaning_of self.old) board }
+        ensures after { meaning_of self.new ≡ ended_after kind (meaning_of self.old) board }
+        ensures memory { self.new.entries.now ≡ grown result self.old board kind R.Part.rules.first }
         ensures numbers { (self.new.used ≡ used_after result self.old.used) × (self.new.boards ≡ self.old.boards) }
         ensures stays { self.new.entries.ghost_name ≡ self.old.entries.ghost_name }
         ensures traced { Threading self.old → Tracing self.new }
@@ -141,7 +140,7 @@ impl<'a, R: Part> Store for Journal<'a, R> {
     ghost use Rattle.std.proofs.Common.{lit≤};
     ghost use Rattle.journal.specs.Back.{latest_kept};
     ghost use Rattle.journal.specs.Held.{meaning_of, log_of, grown, Threading, Tracing};
-    ghost use Rattle.journal.specs.Journals.{entry_of, used_after};
+    ghost use Rattle.journal.specs.Journals.{used_after};
     ghost use Rattle.journal.specs.declared.entry.EntryKind.TheVariants.{Put, Keep, Discard};
     ghost use Rattle.store.specs.Meaning.{standing_of, put_answer, put_after, keep_answer, keep_after, discard_after};
 
@@ -149,7 +148,7 @@ impl<'a, R: Part> Store for Journal<'a, R> {
 
     const WEAR: u32 = JOURNAL_WEAR;
 
-    ghost meaning = { meaning_of R.Part.rules.first };
+    ghost meaning = { meaning_of };
 
     ghost wear = { 1 };
 
@@ -170,7 +169,7 @@ impl<'a, R: Part> Store for Journal<'a, R> {
 
     #[tactic(auto, using(crate::proofs::Back::stands_latest))]
     fn standing(&self, board: usize) -> Result<R, StoreRefusal>
-        ensures value { result ≡ standing_of (meaning_of R.Part.rules.first self.now) board }
+        ensures value { result ≡ standing_of (meaning_of self.now) board }
         ensures latest { IfOk result (λ x. x ≡ latest_kept R.Part.rules.first board false (reverse (log_of self.now))) }
     {
         Ok(self.kept(board)?.standing)
@@ -182,9 +181,9 @@ impl<'a, R: Part> Store for Journal<'a, R> {
 
     #[tactic(auto, using(crate::proofs::Pointers::traced))]
     fn put(&mut self, board: usize, state: R) -> Result<(), StoreRefusal>
-        ensures answer { result ≡ put_answer (meaning_of R.Part.rules.first self.old) board }
-        ensures after { meaning_of R.Part.rules.first self.new ≡ put_after 1 (meaning_of R.Part.rules.first self.old) board state }
-        ensures memory { self.new.entries.now ≡ grown result self.old (entry_of board Put state (log_of self.old)) }
+        ensures answer { result ≡ put_answer (meaning_of self.old) board }
+        ensures after { meaning_of self.new ≡ put_after 1 (meaning_of self.old) board state }
+        ensures memory { self.new.entries.now ≡ grown result self.old board Put state }
         ensures numbers { (self.new.used ≡ used_after result self.old.used) × (self.new.boards ≡ self.old.boards) }
         ensures stays { self.new.entries.ghost_name ≡ self.old.entries.ghost_name }
         ensures traced { Threading self.old → Tracing self.new }
@@ -200,9 +199,9 @@ impl<'a, R: Part> Store for Journal<'a, R> {
     }
 
     fn keep(&mut self, board: usize) -> Result<(), StoreRefusal>
-        ensures answer { result ≡ keep_answer (meaning_of R.Part.rules.first self.old) board }
-        ensures after { meaning_of R.Part.rules.first self.new ≡ keep_after (meaning_of R.Part.rules.first self.old) board }
-        ensures memory { self.new.entries.now ≡ grown result self.old (entry_of board Keep R.Part.rules.first (log_of self.old)) }
+        ensures answer { result ≡ keep_answer (meaning_of self.old) board }
+        ensures after { meaning_of self.new ≡ keep_after (meaning_of self.old) board }
+        ensures memory { self.new.entries.now ≡ grown result self.old board Keep R.Part.rules.first }
         ensures numbers { (self.new.used ≡ used_after result self.old.used) × (self.new.boards ≡ self.old.boards) }
         ensures stays { self.new.entries.ghost_name ≡ self.old.entries.ghost_name }
         ensures traced { Threading self.old → Tracing self.new }
@@ -211,9 +210,9 @@ impl<'a, R: Part> Store for Journal<'a, R> {
     }
 
     fn discard(&mut self, board: usize) -> Result<(), StoreRefusal>
-        ensures answer { result ≡ keep_answer (meaning_of R.Part.rules.first self.old) board }
-        ensures after { meaning_of R.Part.rules.first self.new ≡ discard_after (meaning_of R.Part.rules.first self.old) board }
-        ensures memory { self.new.entries.now ≡ grown result self.old (entry_of board Discard R.Part.rules.first (log_of self.old)) }
+        ensures answer { result ≡ keep_answer (meaning_of self.old) board }
+        ensures after { meaning_of self.new ≡ discard_after (meaning_of self.old) board }
+        ensures memory { self.new.entries.now ≡ grown result self.old board Discard R.Part.rules.first }
         ensures numbers { (self.new.used ≡ used_after result self.old.used) × (self.new.boards ≡ self.old.boards) }
         ensures stays { self.new.entries.ghost_name ≡ self.old.entries.ghost_name }
         ensures traced { Threading self.old → Tracing self.new }

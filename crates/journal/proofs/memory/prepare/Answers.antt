@@ -14,7 +14,8 @@ loop-board-preserved g c =
     let within : i < n = omega (arith, length-take n c.args.entries.now) in
     filled_more c.loop-board.entry-items (fresh_entries first n) i c.loop-board.invariant _
     (omega arith) (omega (arith, length-map-range_with_len (first_entry first) 0 n))
-    (get_or-map-range_with_len (first_entry first) 0 n i i _ within (omega arith) ∙ ap (λ r. first_entry r i) (sym c.first.ensures))
+    (get_or-map-range_with_len (first_entry first) 0 n i i _ within (omega arith)
+    ∙ ap (λ r. first_entry r i) (sym c.first.ensures))
 
 pub returns-clause-memory : goal.returns-clause-memory
 returns-clause-memory g c =

@@ -23,5 +23,6 @@ returns g c =
     let at = c.in_ok-place.ensures.place in
     let taken = c.in_ok-take.ensures.taken in
     let k = kept xs c.args.board _ at.0 at.1 _ true (ap (λ (s : Slot _). s.taken) taken.0) in
-    let set = pending_set xs c.args.board _ at.0 at.1 c.index-slots-place.result (filled false g.R.Part.rules.first) discarding refl in
+    let d = c.index-slots-place.result in
+    let set = pending_set xs c.args.board _ at.0 at.1 d (filled false g.R.Part.rules.first) discarding refl in
     record { answer = rw k; after = rw (taken.1, k, set); memory = rw (taken.1, k, at.0) }

@@ -31,7 +31,8 @@ returns g c =
     let k = kept xs c.args.board _ at.0 at.1 _ true (ap (λ (s : Slot _). s.taken) taken.0) in
     let both = both_set xs c.args.board _ at.0 at.1 d (filled true r) (filled false first) keeping (rw taken.0) in
     let apart : i + 1 ≢ i = λ z. absurd (omega (arith, z)) in
-    let held : slice_get xs (i + 1) ≡ Some (filled true r) = slice_get-get_or xs (i + 1) d at.1 ∙ ap (λ (s : Slot _). Some s) taken.0 in
+    let held : slice_get xs (i + 1) ≡ Some (filled true r) =
+    slice_get-get_or xs (i + 1) d at.1 ∙ ap (λ (s : Slot _). Some s) taken.0 in
     record {
       answer = rw k;
       after = rw (taken.1, k, both);

@@ -12,7 +12,8 @@ loop-place-preserved g c =
     let i = c.loop-place.place in
     let n = c.args.boards in
     let within : i < 2 * n = omega (arith, length-take (2 * n) c.args.slots.now) in
-    filled_more c.loop-place.slot-items (fresh_slots first n) i c.loop-place.invariant _ (omega arith) (omega (arith, length_fresh first n))
+    filled_more c.loop-place.slot-items (fresh_slots first n) i c.loop-place.invariant _
+    (omega arith) (omega (arith, length_fresh first n))
     (fresh_at first n i _ within ∙ ap (filled (eqb (i % 2) 0)) (sym c.first.ensures))
 
 pub returns-clause-memory : goal.returns-clause-memory

@@ -12,4 +12,5 @@ returns g c =
     let log = take s.used s.entries.now in
     let fits = leb-true _ _ s.room in
     let long : length log ≡ s.used = length-take-le s.used s.entries.now (omega (arith, fits)) in
-    c.unwrap_or.ensures ∙ latest_is p log s.used _ (rw c.log.ensures at c.latest_of.ensures) ∙ ap (λ k. latest_from p k 0 log) (sym long)
+    c.unwrap_or.ensures ∙ latest_is p log s.used _ (rw c.log.ensures at c.latest_of.ensures)
+    ∙ ap (λ k. latest_from p k 0 log) (sym long)

@@ -28,5 +28,7 @@ returns g c =
       answer = done.answer;
       places = record { memory = done.memory; count = refl; all = refl };
       fresh = ap (λ es. journal_meaning first es n n) done.memory ∙ fresh_means first entries n fits;
-      traced = subst (λ (xs : List (Entry _)). Traced xs n) (sym log) (traced (fresh_entries first n) n (threaded_fresh first n));
+      traced =
+          subst (λ (xs : List (Entry _)). Traced xs n) (sym log)
+          (traced (fresh_entries first n) n (threaded_fresh first n));
     }
