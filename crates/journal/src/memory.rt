@@ -9,7 +9,7 @@ use records::part::Part;
 use store::refusal::{MakeRefusal, StoreRefusal};
 use store::traits::Store;
 
-// what each put lowers the spare by
+// what a put lowers the spare by; `put_wear` reads it here, since `Self::WEAR` gets no proof beside a type parameter
 const JOURNAL_WEAR: u32 = 1;
 
 // the most places of a journal

@@ -11,7 +11,7 @@ use crate::refusal::{MakeRefusal, StoreRefusal};
 use crate::traits::Store;
 use records::part::Part;
 
-// one place: whether it is taken, and its record
+// one place: whether it is taken, and its record; no `Option`, since an empty place holds the first record
 #[derive(Clone, Copy)]
 pub struct Slot<R> {
     pub taken: bool,
@@ -35,6 +35,8 @@ impl<R: Part> Slot<R> {
         Ok(state)
     }
 }
+
+// The calls are functions of the slice, to which the store hands its own on.
 
 // The place of the board's standing record; that of its pending one is right behind it.
 fn place_of<R: Part>(slots: &[Slot<R>], board: usize) -> Result<usize, StoreRefusal>
@@ -140,6 +142,7 @@ impl<'a, R: Part> SlotStore<'a, R> {
     }
 }
 
+// what a put lowers the spare by; `put_wear` reads it here, since `Self::WEAR` gets no proof beside a type parameter
 const SLOT_WEAR: u32 = 0;
 
 const SLOT_SPARE: usize = 1;

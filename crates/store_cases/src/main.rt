@@ -140,7 +140,8 @@ fn cases<S: Store<Record = Harness> + Drop>(
     Ok(())
 }
 
-// Makes the store that a line asks for, in memory that other records lie in, and runs the commands that follow.
+// Makes the store that a line asks for, in memory that other records lie in, and runs the commands that follow. The arms
+// stay two: a store borrows its memory, and a parameter that makes one could not name a type with that lifetime.
 fn make(rt: &HostRuntime, kind: Kind, line: &str, rest: &[String]) -> anyhow::Result<()> {
     let (_, places, boards) = words(line)?;
     match kind {
