@@ -1,4 +1,5 @@
 pub mod Numbers
+pub mod Fields
 pub mod Spelling
 pub mod SpelledLines
 pub mod SpelledLooms

@@ -1,77 +1,49 @@
--- What the loop over a number's digits keeps. Assumes nothing.
-use Rattle.std.proofs.Common.{◌≡◌, ℕ, ◌+◌, ◌-◌, ◌*◌, ◌^◌, ◌<◌, ◌≤◌, true, false, cond, ◌&&◌, ltb, List, [], ◌∷◌, ◌++◌, length, get_or, take, drop, Some, None, sym, refl, ap, ◌∙◌, arith}
+-- The digits that bytes begin with, and what they write. Assumes nothing.
+use Rattle.std.proofs.Common.{◌≡◌, ℕ, ◌+◌, ◌-◌, ◌*◌, ◌^◌, ◌<◌, ◌≤◌, ◌&&◌, ltb, Bool, true, false, cond, List, [], ◌∷◌, length, get_or, take, drop, Some, None, All, arith, refl, ap, ◌∙◌, sym}
 use Rattle.std.specs.Char.{is_ascii_digit}
-use Rattle.std.proofs.lemmas.List.{append-nil, append_assoc, drop_more, take_more, at_drop_more, at_drop_all, drop_all}
-use Rattle.std.proofs.lemmas.Bool.{cond-true, cond-false, le-ltb, lt-ltb, and_left, and_right, and_from}
-use Rattle.lines.specs.Numbers.{digits, after_digits, value_from, plain, number, Leading}
-
--- the first n bytes are digits, and v is what they write
-pub record Sofar (bs : List ℕ) (v n : ℕ) : Type 0 where
-  pub within : n ≤ length bs
-  pub front : digits bs ≡ take n bs ++ digits (drop n bs)
-  pub after : after_digits bs ≡ after_digits (drop n bs)
-  pub value : value_from 0 (digits bs) ≡ value_from v (digits (drop n bs))
-
-pub sofar_none : (bs : List ℕ) → Sofar bs 0 0
-sofar_none bs = record { within = omega arith; front = refl; after = refl; value = refl }
-
-digits_more : (bs : List ℕ) (n : ℕ) → n < length bs → is_ascii_digit (get_or bs n 0) ≡ true → digits (drop n bs) ≡ get_or bs n 0 ∷ digits (drop (n + 1) bs)
-digits_more bs n h d = at_drop_more digits bs n 0 h ∙ cond-true _ _ _ d
-
-after_more : (bs : List ℕ) (n : ℕ) → n < length bs → is_ascii_digit (get_or bs n 0) ≡ true → after_digits (drop n bs) ≡ after_digits (drop (n + 1) bs)
-after_more bs n h d = at_drop_more after_digits bs n 0 h ∙ cond-true _ _ _ d
-
-pub sofar_more : (bs : List ℕ) (v n : ℕ) → Sofar bs v n → n < length bs → is_ascii_digit (get_or bs n 0) ≡ true → Sofar bs (v * 10 + (get_or bs n 0 - 48)) (n + 1)
-sofar_more bs v n s h d = record {
-  within = omega arith;
-  front = s.front ∙ ap (λ ds. take n bs ++ ds) (digits_more bs n h d) ∙ sym (append_assoc (take n bs) (get_or bs n 0 ∷ []) (digits (drop (n + 1) bs)))
-      ∙ ap (λ xs. xs ++ digits (drop (n + 1) bs)) (sym (take_more bs n 0 h));
-  after = s.after ∙ after_more bs n h d;
-  value = s.value ∙ ap (value_from v) (digits_more bs n h d);
-}
+use Rattle.std.specs.List.{prefix_len}
+use Rattle.std.proofs.lemmas.Grind.{common_steps}
+use Rattle.std.proofs.lemmas.List.{at_drop_more}
+use Rattle.lines.specs.Numbers.{digits, after_digits, value_from, plain, number}
 
 -- a number only grows with its digits
 value_ge : (v : ℕ) (ds : List ℕ) → v ≤ value_from v ds
 value_ge v [] = omega arith
 value_ge v (c ∷ cs) = let h = value_ge (v * 10 + (c - 48)) cs in omega arith
 
--- where one digit more passes the bound, all the digits do
-pub sofar_over : (bs : List ℕ) (v n : ℕ) → Sofar bs v n → n < length bs → is_ascii_digit (get_or bs n 0) ≡ true
-    → (v * 10 + (get_or bs n 0 - 48) < 2 ^ 32 → ⊥) → 2 ^ 32 ≤ value_from 0 (digits bs)
-sofar_over bs v n s h d over =
-    let w : ℕ = v * 10 + (get_or bs n 0 - 48) in
-    let more : Sofar bs w (n + 1) = sofar_more bs v n s h d in
-    let grown : w ≤ value_from w (digits (drop (n + 1) bs)) = value_ge w (digits (drop (n + 1) bs)) in
-    omega (arith, more.value, over)
+-- where the digits up to one pass a bound, all of them do
+pub value_over : (v m i : ℕ) (ds : List ℕ) → i < length ds → m ≤ v * 10 + (get_or ds i 0 - 48) → m ≤ value_from v (drop i ds)
+value_over v m i ds l h =
+    let more = at_drop_more (value_from v) ds i 0 l in
+    let grown = value_ge (v * 10 + (get_or ds i 0 - 48)) (drop (i + 1) ds) in
+    omega (arith, more, grown)
 
-leading_by : (bs : List ℕ) (v n : ℕ) → Sofar bs v n → v < 2 ^ 32 → digits (drop n bs) ≡ [] → after_digits (drop n bs) ≡ drop n bs → Leading bs v n
-leading_by bs v n s small d a = record {
-  within = s.within;
-  front = s.front ∙ ap (λ ds. take n bs ++ ds) d ∙ append-nil (take n bs);
-  after = s.after ∙ a;
-  value = s.value ∙ ap (value_from v) d;
-  small = small;
-}
+digits_front : (bs : List ℕ) → (digits bs ≡ take (prefix_len is_ascii_digit bs) bs) × (after_digits bs ≡ drop (prefix_len is_ascii_digit bs) bs)
+digits_front [] = (refl, refl)
+digits_front (c ∷ cs) = go (is_ascii_digit c) (digits_front cs) where
+  go : (b : Bool) → (digits cs ≡ take (prefix_len is_ascii_digit cs) cs) × (after_digits cs ≡ drop (prefix_len is_ascii_digit cs) cs)
+      → (cond b (c ∷ digits cs) [] ≡ take (cond b (1 + prefix_len is_ascii_digit cs) 0) (c ∷ cs))
+      × (cond b (after_digits cs) (c ∷ cs) ≡ drop (cond b (1 + prefix_len is_ascii_digit cs) 0) (c ∷ cs))
+  go true e = (grind (arith, common_steps, e.0), grind (arith, common_steps, e.1))
+  go false e = (refl, refl)
 
--- the digits end at another byte, or with the list
-pub ends_at_other : (bs : List ℕ) (v n : ℕ) → Sofar bs v n → v < 2 ^ 32 → n < length bs → is_ascii_digit (get_or bs n 0) ≡ false → Leading bs v n
-ends_at_other bs v n s small h d =
-    leading_by bs v n s small (at_drop_more digits bs n 0 h ∙ cond-false _ _ _ d)
-    (at_drop_more after_digits bs n 0 h ∙ cond-false _ _ _ d ∙ sym (drop_more bs n 0 h))
+digits_ge : (bs : List ℕ) → All (λ c. 48 ≤ c) (digits bs)
+digits_ge [] = λ k d h. absurd (omega (arith, h))
+digits_ge (c ∷ cs) = go (is_ascii_digit c) refl (digits_ge cs) where
+  go : (b : Bool) → is_ascii_digit c ≡ b → All (λ c. 48 ≤ c) (digits cs) → All (λ c. 48 ≤ c) (cond b (c ∷ digits cs) [])
+  go true e more = λ k d h. grind (arith, common_steps, e, more)
+  go false e more = λ k d h. absurd (omega (arith, h))
 
-pub ends_at_last : (bs : List ℕ) (v n : ℕ) → Sofar bs v n → v < 2 ^ 32 → length bs ≤ n → Leading bs v n
-ends_at_last bs v n s small h =
-    leading_by bs v n s small (at_drop_all digits bs n h) (at_drop_all after_digits bs n h ∙ sym (drop_all n bs h))
+-- bytes that are cut behind their leading digits
+pub record Cut (bs ds rest : List ℕ) : Type 0 where
+  pub digits : All (λ c. 48 ≤ c) ds
+  pub number : number bs ≡ cond (plain ds && ltb (value_from 0 ds) (2 ^ 32)) (Some (value_from 0 ds, rest)) None
 
--- the number, by its leading digits
-pub number_over : (bs : List ℕ) → 2 ^ 32 ≤ value_from 0 (digits bs) → number bs ≡ None
-number_over bs h = cond-false _ _ _ (and_right _ _ (le-ltb _ _ h))
-
-number_by : (bs : List ℕ) (v n : ℕ) → Leading bs v n → number bs ≡ cond (plain (take n bs) && ltb v (2 ^ 32)) (Some (v, drop n bs)) None
-number_by bs v n e = λ i. cond (plain (e.front i) && ltb (e.value i) (2 ^ 32)) (Some (e.value i, e.after i)) None
-
-pub number-plain : (bs : List ℕ) (v n : ℕ) → Leading bs v n → plain (take n bs) ≡ true → number bs ≡ Some (v, drop n bs)
-number-plain bs v n e p = number_by bs v n e ∙ cond-true _ _ _ (and_from _ _ p (lt-ltb _ _ e.small))
-
-pub number_other : (bs : List ℕ) (v n : ℕ) → Leading bs v n → plain (take n bs) ≡ false → number bs ≡ None
-number_other bs v n e p = number_by bs v n e ∙ cond-false _ _ _ (and_left _ _ p)
+pub cut : (bs ds rest : List ℕ) (n : ℕ) → n ≡ prefix_len is_ascii_digit bs → ds ≡ take n bs → rest ≡ drop n bs → Cut bs ds rest
+cut bs ds rest n e front back =
+    let d : digits bs ≡ ds = (digits_front bs).0 ∙ ap (λ k. take k bs) (sym e) ∙ sym front in
+    let r : after_digits bs ≡ rest = (digits_front bs).1 ∙ ap (λ k. drop k bs) (sym e) ∙ sym back in
+    record {
+      digits = rw d at (digits_ge bs);
+      number = λ i. cond (plain (d i) && ltb (value_from 0 (d i)) (2 ^ 32)) (Some (value_from 0 (d i), r i)) None;
+    }

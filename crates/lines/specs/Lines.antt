@@ -1,5 +1,5 @@
 -- What a line is: the pieces of a line one after the other, each ended line by byte 0A.
-use Rattle.std.specs.Prelude.{ℕ, cond, ◌&&◌, List, [], ◌∷◌, Some, None, codes, Option, ◌==◌, nat_le}
+use Rattle.std.specs.Prelude.{ℕ, zero, suc, cond, ◌&&◌, List, [], ◌∷◌, Some, None, codes, Option, ◌==◌, nat_le}
 use Rattle.turns.specs.declared.turn.Turn.{Turn}
 use Rattle.turns.specs.declared.turn.Turn.TheVariants.{Work, Send, Deliver, Checkpoint, Rollback, Stop, Restart, SetWilling}
 use Rattle.lines.specs.Numbers.{number}
@@ -22,6 +22,11 @@ byte b (c ∷ cs) = cond (c == b) (Some cs) None
 -- a space and a number
 abbrev pub field : List ℕ → Option (ℕ × List ℕ)
 field bs = and_then (byte 32 bs) number
+
+-- so many numbers, each after a space, and the line's end
+abbrev pub fields : ℕ → List ℕ → Option (List ℕ × List ℕ)
+fields zero bs = and_then (byte 10 bs) (λ rest. Some ([], rest))
+fields (suc n) bs = and_then (field bs) (λ a. and_then (fields n a.1) (λ b. Some (a.0 ∷ b.0, b.1)))
 
 -- the numbers of a line, and its end
 abbrev pub one_field : List ℕ → Option (ℕ × List ℕ)

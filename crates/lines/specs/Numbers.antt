@@ -1,6 +1,6 @@
 -- What a number is. Bytes are numbers below 256; a piece of a file is read from the front of a list of
 -- bytes, and gives its value and the bytes after it, or nothing.
-use Rattle.std.specs.Prelude.{◌≡◌, ℕ, ◌+◌, ◌-◌, ◌*◌, ◌^◌, ◌<◌, ◌≤◌, Bool, true, false, cond, not, ◌&&◌, List, [], ◌∷◌, length, take, drop, Some, None, Option, ◌==◌, nat_lt}
+use Rattle.std.specs.Prelude.{ℕ, ◌+◌, ◌-◌, ◌*◌, ◌^◌, Bool, true, false, cond, not, ◌&&◌, List, [], ◌∷◌, Some, None, Option, ◌==◌, nat_lt}
 use Rattle.std.specs.Borrow.{Bor}
 use Rattle.std.specs.Char.{is_ascii_digit}
 
@@ -34,11 +34,3 @@ is_number ds = plain ds && nat_lt (value_from 0 ds) (2 ^ 32)
 
 abbrev pub number : List ℕ → Option (ℕ × List ℕ)
 number bs = cond (is_number (digits bs)) (Some (value_from 0 (digits bs), after_digits bs)) None
-
--- the first n bytes are all the leading digits, and write v, a number below 2^32
-pub record Leading (bs : List ℕ) (v n : ℕ) : Type 0 where
-  pub within : n ≤ length bs
-  pub front : digits bs ≡ take n bs
-  pub after : after_digits bs ≡ drop n bs
-  pub value : value_from 0 (digits bs) ≡ v
-  pub small : v < 2 ^ 32

@@ -2,7 +2,7 @@
 // the bytes from where its piece should stand, and gives the piece and the bytes after it.
 ghost use Rattle.std.specs.Prelude.{◌≡◌};
 ghost use Rattle.std.specs.Option.{option_map};
-ghost use Rattle.lines.specs.Lines.{byte, field, one_field, two_fields, three_fields};
+ghost use Rattle.lines.specs.Lines.{byte, field, fields};
 ghost use Rattle.lines.specs.Numbers.{seen};
 
 use crate::number::number_at;
@@ -12,7 +12,7 @@ pub fn after_byte(bytes: &[u8], wanted: u8) -> Option<&[u8]>
     ensures { option_map (λ x. x.now) result ≡ byte wanted bytes.now }
 {
     let (first, rest) = bytes.split_first()?;
-    if *first == wanted { Some(rest) } else { None }
+    (*first == wanted).then_some(rest)
 }
 
 // A space and a number.
@@ -22,28 +22,15 @@ pub fn field_at(bytes: &[u8]) -> Option<(u32, &[u8])>
     number_at(after_byte(bytes, b' ')?)
 }
 
-// One number, and the line's end.
-pub fn one_field(bytes: &[u8]) -> Option<(u32, &[u8])>
-    ensures { option_map seen result ≡ one_field bytes.now }
+// N numbers, each after a space, and the line's end.
+pub fn fields<const N: usize>(bytes: &[u8]) -> Option<([u32; N], &[u8])>
+    ensures { option_map seen result ≡ fields N bytes.now }
 {
-    let (a, rest) = field_at(bytes)?;
-    Some((a, after_byte(rest, b'\n')?))
-}
-
-// Two numbers, and the line's end.
-pub fn two_fields(bytes: &[u8]) -> Option<((u32, u32), &[u8])>
-    ensures { option_map seen result ≡ two_fields bytes.now }
-{
-    let (a, rest) = field_at(bytes)?;
-    let (b, rest) = one_field(rest)?;
-    Some(((a, b), rest))
-}
-
-// Three numbers, and the line's end.
-pub fn three_fields(bytes: &[u8]) -> Option<((u32, u32, u32), &[u8])>
-    ensures { option_map seen result ≡ three_fields bytes.now }
-{
-    let (a, rest) = field_at(bytes)?;
-    let ((b, c), rest) = two_fields(rest)?;
-    Some(((a, b, c), rest))
+    let mut numbers = [0; N];
+    let mut rest = bytes;
+    for number in &mut numbers {
+        (*number, rest) = field_at(rest)?;
+    }
+    let rest = after_byte(rest, b'\n')?;
+    Some((numbers, rest))
 }

@@ -4,7 +4,7 @@ ghost use Rattle.std.specs.Option.{option_map};
 ghost use Rattle.lines.specs.Lines.{turn_by, turn_line};
 ghost use Rattle.lines.specs.Numbers.{seen};
 
-use crate::line::{one_field, three_fields, two_fields};
+use crate::line::fields;
 use turns::turn::Turn;
 
 // The turn that a letter begins, by the bytes after the letter, and the bytes after its line.
@@ -12,38 +12,20 @@ fn turn_by(letter: char, bytes: &[u8]) -> Option<(Turn, &[u8])>
     ensures { option_map seen result ≡ turn_by letter bytes.now }
 {
     match letter {
-        'W' => {
-            let ((board, word), rest) = two_fields(bytes)?;
-            Some((Turn::Work { board, word }, rest))
-        }
-        'S' => {
-            let ((from, to, word), rest) = three_fields(bytes)?;
-            Some((Turn::Send { from, to, word }, rest))
-        }
-        'D' => {
-            let ((from, to), rest) = two_fields(bytes)?;
-            Some((Turn::Deliver { from, to }, rest))
-        }
-        'C' => {
-            let (board, rest) = one_field(bytes)?;
-            Some((Turn::Checkpoint { board }, rest))
-        }
-        'R' => {
-            let (board, rest) = one_field(bytes)?;
-            Some((Turn::Rollback { board }, rest))
-        }
-        'X' => {
-            let (board, rest) = one_field(bytes)?;
-            Some((Turn::Stop { board }, rest))
-        }
-        'U' => {
-            let (board, rest) = one_field(bytes)?;
-            Some((Turn::Restart { board }, rest))
-        }
-        'N' => {
-            let ((board, willing), rest) = two_fields(bytes)?;
-            Some((Turn::SetWilling { board, willing }, rest))
-        }
+        'W' => fields::<2>(bytes).map(|([board, word], rest)| (Turn::Work { board, word }, rest)),
+        'S' => fields::<3>(bytes).map(|([from, to, word], rest)| (
+            Turn::Send { from, to, word },
+            rest,
+        )),
+        'D' => fields::<2>(bytes).map(|([from, to], rest)| (Turn::Deliver { from, to }, rest)),
+        'C' => fields::<1>(bytes).map(|([board], rest)| (Turn::Checkpoint { board }, rest)),
+        'R' => fields::<1>(bytes).map(|([board], rest)| (Turn::Rollback { board }, rest)),
+        'X' => fields::<1>(bytes).map(|([board], rest)| (Turn::Stop { board }, rest)),
+        'U' => fields::<1>(bytes).map(|([board], rest)| (Turn::Restart { board }, rest)),
+        'N' => fields::<2>(bytes).map(|([board, willing], rest)| (
+            Turn::SetWilling { board, willing },
+            rest,
+        )),
         _ => None,
     }
 }
