@@ -1,4 +1,9 @@
 // What the first line of a run file says of the loom.
+ghost use Rattle.std.specs.Prelude.{◌≡◌, Some, None, MatchResult};
+ghost use Rattle.lines.specs.Lines.{part_of};
+ghost use Rattle.lines.specs.Names.{part_name, store_name};
+
+use std::fmt;
 
 // where the checkpoints are kept
 #[derive(Clone, Copy, PartialEq, Eq, Debug)]
@@ -16,9 +21,49 @@ pub enum PartKind {
     Feed,
 }
 
+// a letter that names no kind of record
+#[derive(Clone, Copy, PartialEq, Eq, Debug)]
+pub struct UnknownPart(pub char);
+
 #[derive(Clone, Copy, PartialEq, Eq, Debug)]
 pub struct Loom {
     pub boards: u32,
     pub store: StoreKind,
     pub part: PartKind,
+}
+
+impl TryFrom<char> for PartKind {
+    type Error = UnknownPart;
+
+    ghost try_from_gives = { λ letter r. MatchResult r (λ part. part_of letter ≡ Some part) (λ _. part_of letter ≡ None) };
+
+    fn try_from(letter: char) -> Result<PartKind, UnknownPart> {
+        match letter {
+            'H' => Ok(PartKind::Harness),
+            'F' => Ok(PartKind::Feed),
+            _ => Err(UnknownPart(letter)),
+        }
+    }
+}
+
+impl fmt::Display for PartKind {
+    ghost output = { λ part. Some (part_name part) };
+
+    fn fmt<W: fmt::Write>(&self, f: &mut fmt::Formatter<W>) -> fmt::Result {
+        f.write_str(match self {
+            PartKind::Harness => "harness",
+            PartKind::Feed => "feed",
+        })
+    }
+}
+
+impl fmt::Display for StoreKind {
+    ghost output = { λ store. Some (store_name store) };
+
+    fn fmt<W: fmt::Write>(&self, f: &mut fmt::Formatter<W>) -> fmt::Result {
+        match self {
+            StoreKind::Slots => f.write_str("slot store"),
+            StoreKind::Journal { places } => write!(f, "journal of {places} places"),
+        }
+    }
 }

@@ -1,7 +1,7 @@
 // The first line: LOOM, the number of boards, the store with its places, the kind of record.
 ghost use Rattle.std.specs.Prelude.{◌≡◌, codes};
 ghost use Rattle.std.specs.Option.{option_map};
-ghost use Rattle.lines.specs.Lines.{text, letter_field, store_of, part_of, loom_of, loom_line};
+ghost use Rattle.lines.specs.Lines.{text, letter_field, store_of, loom_of, loom_line};
 ghost use Rattle.lines.specs.Numbers.{seen};
 
 use crate::line::{after_byte, field_at};
@@ -31,17 +31,7 @@ fn store_of(boards: u32, letter: char, places: u32) -> Option<StoreKind>
 {
     match letter {
         'S' if places == 0 => Some(StoreKind::Slots),
-        'J' if boards <= places && places <= MAX_PLACES => Some(StoreKind::Journal { places }),
-        _ => None,
-    }
-}
-
-fn part_of(letter: char) -> Option<PartKind>
-    ensures { result ≡ part_of letter }
-{
-    match letter {
-        'H' => Some(PartKind::Harness),
-        'F' => Some(PartKind::Feed),
+        'J' if (boards..=MAX_PLACES).contains(&places) => Some(StoreKind::Journal { places }),
         _ => None,
     }
 }
@@ -49,15 +39,13 @@ fn part_of(letter: char) -> Option<PartKind>
 fn loom_of(boards: u32, store: char, places: u32, part: char) -> Option<Loom>
     ensures { result ≡ loom_of boards store places part }
 {
-    if boards < 1 || boards > MAX_BOARDS {
+    if !(1..=MAX_BOARDS).contains(&boards) {
         return None;
     }
-    let store = store_of(boards, store, places)?;
-    let part = part_of(part)?;
     Some(Loom {
         boards,
-        store,
-        part,
+        store: store_of(boards, store, places)?,
+        part: PartKind::try_from(part).ok()?,
     })
 }
 
@@ -71,6 +59,5 @@ pub fn loom_at(bytes: &[u8]) -> Option<(Loom, &[u8])>
     let (places, rest) = field_at(rest)?;
     let (part, rest) = letter_at(rest)?;
     let rest = after_byte(rest, b'\n')?;
-    let loom = loom_of(boards, store, places, part)?;
-    Some((loom, rest))
+    Some((loom_of(boards, store, places, part)?, rest))
 }
