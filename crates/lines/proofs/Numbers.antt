@@ -29,10 +29,7 @@ digits_front (c ∷ cs) = go (is_ascii_digit c) (digits_front cs) where
 
 digits_ge : (bs : List ℕ) → All (λ c. 48 ≤ c) (digits bs)
 digits_ge [] = λ k d h. absurd (omega (arith, h))
-digits_ge (c ∷ cs) = go (is_ascii_digit c) refl (digits_ge cs) where
-  go : (b : Bool) → is_ascii_digit c ≡ b → All (λ c. 48 ≤ c) (digits cs) → All (λ c. 48 ≤ c) (cond b (c ∷ digits cs) [])
-  go true e more = λ k d h. grind (arith, common_steps, e, more)
-  go false e more = λ k d h. absurd (omega (arith, h))
+digits_ge (c ∷ cs) = let more = digits_ge cs in λ k d h. grind (arith, common_steps, more)
 
 -- bytes that are cut behind their leading digits
 pub record Cut (bs ds rest : List ℕ) : Type 0 where

@@ -1,7 +1,9 @@
 -- First lines that are spelled are read back, and what is read was spelled so. Assumes nothing.
-use Rattle.std.proofs.Common.{◌≡◌, ℕ, ◌^◌, ◌<◌, ◌&&◌, eqb, leb, List, [], ◌∷◌, ◌++◌, Some, codes, sym, refl, ap, ◌∙◌, subst, arith}
+use Rattle.std.proofs.Common.{◌≡◌, ℕ, ◌^◌, ◌<◌, ◌&&◌, leb, List, [], ◌∷◌, ◌++◌, Some, codes, sym, refl, ap, ◌∙◌, subst, arith}
 use Rattle.std.proofs.lemmas.List.{append_assoc}
-use Rattle.std.proofs.lemmas.Bool.{eqb-true, leb-true, le-leb, and_from, and_parts, cond-true}
+use Rattle.std.proofs.lemmas.Grind.{common_steps}
+use Rattle.std.proofs.lemmas.Option.{same_Some}
+use Rattle.std.proofs.lemmas.Bool.{leb-true, and_parts}
 use Rattle.lines.specs.Lines.{byte, field, text, first, letter_field, store_of, part_of, loom_of, loom_line}
 use Rattle.lines.specs.Spelling.{spell_field, store_letter, places_of, part_letter, spell_loom, FitStore, FitLoom}
 use Rattle.lines.specs.declared.loom.StoreKind.{StoreKind}
@@ -9,16 +11,16 @@ use Rattle.lines.specs.declared.loom.StoreKind.TheVariants.{Slots, Journal}
 use Rattle.lines.specs.declared.loom.PartKind.{PartKind}
 use Rattle.lines.specs.declared.loom.PartKind.TheVariants.{Harness, Feed}
 use Rattle.lines.specs.declared.loom.Loom.{Loom}
-use Rattle.lines.proofs.Spelling.{none_not_some, then_was, then_some, byte_spelled, byte_was, field_spelled, field_was}
-use Rattle.lines.proofs.SpelledLines.{some_same, cond_was}
+use Rattle.lines.proofs.Spelling.{then_was, byte_was, field_spelled, field_was}
+use Rattle.lines.proofs.SpelledLines.{cond_was}
 
 -- a word of fixed bytes
 text_spelled : (w rest : List ℕ) → text w (w ++ rest) ≡ Some rest
 text_spelled [] rest = refl
-text_spelled (c ∷ cs) rest = then_some (byte c (c ∷ cs ++ rest)) (text cs) (cs ++ rest) (byte_spelled c (cs ++ rest)) ∙ text_spelled cs rest
+text_spelled (c ∷ cs) rest = let more = text_spelled cs rest in grind (arith, common_steps, more)
 
 text_was : (w bs rest : List ℕ) → text w bs ≡ Some rest → bs ≡ w ++ rest
-text_was [] bs rest e = some_same bs rest e
+text_was [] bs rest e = cc
 text_was (c ∷ cs) bs rest e =
     let a = then_was (byte c bs) (text cs) rest e in
     byte_was c bs a.0 a.1.0 ∙ ap (λ xs. c ∷ xs) (text_was cs a.0 rest a.1.1)
@@ -28,8 +30,8 @@ letter_spelled : (c : ℕ) (rest : List ℕ) → letter_field (32 ∷ c ∷ rest
 letter_spelled c rest = refl
 
 first_was : (bs : List ℕ) (x : ℕ × List ℕ) → first bs ≡ Some x → bs ≡ x.0 ∷ x.1
-first_was [] x e = absurd (none_not_some e)
-first_was (c ∷ cs) x e = let same = some_same (c, cs) x e in λ i. (same i).0 ∷ (same i).1
+first_was [] x e = cc
+first_was (c ∷ cs) x e = grind (arith, common_steps)
 
 letter_field_was : (bs : List ℕ) (x : ℕ × List ℕ) → letter_field bs ≡ Some x → bs ≡ 32 ∷ x.0 ∷ x.1
 letter_field_was bs x e =
@@ -39,39 +41,25 @@ letter_field_was bs x e =
 -- the store by its letter and places, the part by its letter
 store_spelled : (n : ℕ) (s : StoreKind) → FitStore n s → store_of n (store_letter s) (places_of s) ≡ Some s
 store_spelled n Slots f = refl
-store_spelled n (Journal e) f = cond-true _ _ _ (and_from _ _ (le-leb n e f.0) (le-leb e 1024 f.1))
+store_spelled n (Journal e) f = grind (arith, f.0, f.1)
 
 store_was : (n l e : ℕ) (s : StoreKind) → store_of n l e ≡ Some s → (l ≡ store_letter s) × (e ≡ places_of s) × FitStore n s
-store_was n l e s =
-    cond_was (eqb l 83) _ _ s
-    (λ t. cond_was (eqb e 0) _ _ s
-    (λ z h. subst (λ (k : StoreKind). (l ≡ store_letter k) × (e ≡ places_of k) × FitStore n k) (some_same Slots s h) (eqb-true l 83 t, eqb-true e 0 z, tt))
-    (λ h. absurd (none_not_some h)))
-    (cond_was (eqb l 74) _ _ s
-    (λ t. cond_was (leb n e && leb e 1024) _ _ s
-    (λ b h. subst (λ (k : StoreKind). (l ≡ store_letter k) × (e ≡ places_of k) × FitStore n k) (some_same (Journal e) s h)
-    (let p = and_parts (leb n e) (leb e 1024) b in (eqb-true l 74 t, refl, (leb-true n e p.0, leb-true e 1024 p.1))))
-    (λ h. absurd (none_not_some h)))
-    (λ h. absurd (none_not_some h)))
+store_was n l e Slots h = grind (arith, common_steps)
+store_was n l e (Journal k) h = grind (arith, common_steps)
 
 part_spelled : (k : PartKind) → part_of (part_letter k) ≡ Some k
 part_spelled Harness = refl
 part_spelled Feed = refl
 
 part_was : (l : ℕ) (k : PartKind) → part_of l ≡ Some k → l ≡ part_letter k
-part_was l k =
-    cond_was (eqb l 72) _ _ k (λ t h. eqb-true l 72 t ∙ ap part_letter (some_same Harness k h))
-    (cond_was (eqb l 70) _ _ k (λ t h. eqb-true l 70 t ∙ ap part_letter (some_same Feed k h))
-    (λ h. absurd (none_not_some h)))
+part_was l Harness h = grind (arith, common_steps)
+part_was l Feed h = grind (arith, common_steps)
 
 abbrev pub loom_from : ℕ → StoreKind → PartKind → Loom
 loom_from n s k = record { boards = n; store = s; part = k }
 
 loom_made : (n : ℕ) (s : StoreKind) (k : PartKind) → FitLoom (loom_from n s k) → loom_of n (store_letter s) (places_of s) (part_letter k) ≡ Some (loom_from n s k)
-loom_made n s k f =
-    cond-true _ _ _ (and_from _ _ (le-leb 1 n f.0) (le-leb n 19 f.1))
-    ∙ then_some (store_of n (store_letter s) (places_of s)) _ s (store_spelled n s f.2)
-    ∙ then_some (part_of (part_letter k)) (λ p. Some (loom_from n s p)) k (part_spelled k)
+loom_made n s k f = let a = store_spelled n s f.2 in let b = part_spelled k in grind (arith, common_steps, a, b, f.0, f.1)
 
 -- a loom was made of these
 pub record Made (n l e m : ℕ) (loom : Loom) : Type 0 where
@@ -89,9 +77,9 @@ loom_was_made n l e m loom =
     let s = then_was (store_of n l e) _ loom h in
     let k = then_was (part_of m) _ loom s.1.1 in
     let w = store_was n l e s.0 s.1.0 in
-    subst (λ (z : Loom). Made n l e m z) (some_same (loom_from n s.0 k.0) loom k.1.1)
+    subst (λ (z : Loom). Made n l e m z) (same_Some (loom_from n s.0 k.0) loom k.1.1)
     (record { fit = (leb-true 1 n p.0, leb-true n 19 p.1, w.2); boards = refl; store = w.0; places = w.1; part = part_was m k.0 k.1.0 }))
-    (λ h. absurd (none_not_some h))
+    (λ h. cc)
 
 -- the first line with what follows it
 abbrev laid : Loom → List ℕ → List ℕ
@@ -107,7 +95,7 @@ laid_is loom rest =
 
 few_places : (n : ℕ) (s : StoreKind) → FitStore n s → places_of s < 2 ^ 32
 few_places n Slots f = omega arith
-few_places n (Journal e) f = omega (arith, f.1)
+few_places n (Journal e) f = omega arith
 
 pub loom_spelled : (loom : Loom) (rest : List ℕ) → FitLoom loom → loom_line (spell_loom loom ++ rest) ≡ Some (loom, rest)
 loom_spelled loom rest f =
@@ -143,5 +131,5 @@ loom_was bs x e =
     laid_from m.0 made (text_was (codes "LOOM") bs w.0 w.1.0) (field_was w.0 n.0 n.1.0).0
     (letter_field_was n.0.1 s.0 s.1.0) (field_was s.0.1 p.0 p.1.0).0
     (letter_field_was p.0.1 k.0 k.1.0) (byte_was 10 k.0.1 r.0 r.1.0) in
-    subst (λ (z : Loom × List ℕ). (bs ≡ spell_loom z.0 ++ z.1) × FitLoom z.0) (some_same (m.0, r.0) x m.1.1)
+    subst (λ (z : Loom × List ℕ). (bs ≡ spell_loom z.0 ++ z.1) × FitLoom z.0) (same_Some (m.0, r.0) x m.1.1)
     (spelt ∙ sym (laid_is m.0 r.0), made.fit)

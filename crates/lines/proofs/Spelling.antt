@@ -1,10 +1,12 @@
 -- Numbers and lines that are spelled are read back, and what is read was spelled so. Assumes nothing.
-use Rattle.std.proofs.Common.{◌≡◌, ℕ, zero, suc, ◌^◌, ◌<◌, Bool, true, false, cond, eqb, ltb, List, [], ◌∷◌, ◌++◌, length, get_or, Some, None, decimal, Option, sym, refl, ap, ◌∙◌, arith, rules}
+use Rattle.std.proofs.Common.{◌≡◌, ℕ, zero, suc, ◌^◌, ◌<◌, true, false, eqb, ltb, List, [], ◌∷◌, ◌++◌, length, get_or, Some, None, decimal, Option, sym, refl, ap, ◌∙◌, arith, rules}
 use Rattle.std.specs.Char.{is_ascii_digit}
 use Rattle.std.specs.Str.{all_ascii_digits}
 use Rattle.std.proofs.lemmas.Fmt.{digits_decimal, digits_value-decimal, decimal-digits_value, decimal_nonempty, first_decimal, decimal_digit}
 use Rattle.std.proofs.lemmas.Str.Parse.{IsNumeralModel, numerals_by_fold, tells_all_ascii_digits}
-use Rattle.std.proofs.lemmas.Bool.{false≢true, cond-true, cond-false, lt-ltb, ltb-true, and_from, and_parts, ne_eqb, eqb-true, eqb-false, not-true, not_from_false, eq-eqb}
+use Rattle.std.proofs.lemmas.Grind.{common_steps}
+use Rattle.std.proofs.lemmas.Option.{cond_some}
+use Rattle.std.proofs.lemmas.Bool.{cond-true, lt-ltb, ltb-true, and_from, and_parts, eqb-true}
 use Rattle.lines.specs.Lines.{and_then, byte, field}
 use Rattle.lines.specs.Spelling.{spell_field}
 use Rattle.lines.specs.Numbers.{digits, after_digits, value_from, plain, is_number, number}
@@ -12,23 +14,18 @@ use Rattle.lines.specs.Numbers.{digits, after_digits, value_from, plain, is_numb
 own : IsNumeralModel (λ ds. all_ascii_digits ds ≡ true) (value_from 0)
 own = numerals_by_fold _ tells_all_ascii_digits value_from (search rules)
 
--- nothing is not something
-pub none_not_some : {A : Type 0} {x : A} → None ≡ Some x → ⊥
-none_not_some e = let z : ◌≡◌ {A = ℕ} 0 1 = cc in omega arith
-
 -- digits before a byte that is none
 digits-before : (ds : List ℕ) (c : ℕ) (rest : List ℕ) → all_ascii_digits ds ≡ true → is_ascii_digit c ≡ false
     → (digits (ds ++ c ∷ rest) ≡ ds) × (after_digits (ds ++ c ∷ rest) ≡ c ∷ rest)
-digits-before [] c rest h n = (cond-false _ _ _ n, cond-false _ _ _ n)
+digits-before [] c rest h n = (grind (arith, n), grind (arith, n))
 digits-before (d ∷ ds) c rest h n =
-    let p = and_parts (is_ascii_digit d) (all_ascii_digits ds) h in
-    let more = digits-before ds c rest p.1 n in
-    (cond-true _ _ _ p.0 ∙ ap (λ xs. d ∷ xs) more.0, cond-true _ _ _ p.0 ∙ more.1)
+    let more = digits-before ds c rest (and_parts (is_ascii_digit d) (all_ascii_digits ds) h).1 n in
+    (grind (arith, common_steps, more.0), grind (arith, common_steps, more.1))
 
 plain_by : (ds : List ℕ) → 0 < length ds → (get_or ds 0 0 ≡ 48 → length ds ≡ 1) → plain ds ≡ true
-plain_by [] h z = absurd (omega arith)
+plain_by [] h z = grind arith
 plain_by (c ∷ []) h z = refl
-plain_by (c ∷ d ∷ ds) h z = not_from_false _ (ne_eqb c 48 (λ e. let two : length (c ∷ d ∷ ds) ≡ 1 = z e in omega (arith, two)))
+plain_by (c ∷ d ∷ ds) h z = grind (arith, common_steps, z)
 
 decimal_zero : (n : ℕ) → n < 2 ^ 64 → get_or (decimal n) 0 0 ≡ 48 → length (decimal n) ≡ 1
 decimal_zero zero h z = ap length (decimal_digit 0 (omega arith))
@@ -46,47 +43,35 @@ number_spelled n c rest small other =
 -- what is read as a number was spelled so
 digits_all : (bs : List ℕ) → (all_ascii_digits (digits bs) ≡ true) × (digits bs ++ after_digits bs ≡ bs)
 digits_all [] = (refl, refl)
-digits_all (c ∷ cs) = go (is_ascii_digit c) refl (digits_all cs) where
-  go : (b : Bool) → is_ascii_digit c ≡ b → (all_ascii_digits (digits cs) ≡ true) × (digits cs ++ after_digits cs ≡ cs)
-      → (all_ascii_digits (cond b (c ∷ digits cs) []) ≡ true) × (cond b (c ∷ digits cs) [] ++ cond b (after_digits cs) (c ∷ cs) ≡ c ∷ cs)
-  go true e rest = (and_from _ _ e rest.0, ap (λ xs. c ∷ xs) rest.1)
-  go false e rest = (refl, refl)
+digits_all (c ∷ cs) = let more = digits_all cs in (grind (arith, common_steps, more.0), grind (arith, common_steps, more.1))
 
 plain_parts : (ds : List ℕ) → plain ds ≡ true → (0 < length ds) × (get_or ds 0 0 ≡ 48 → length ds ≡ 1)
-plain_parts [] p = absurd (false≢true p)
+plain_parts [] p = cc
 plain_parts (c ∷ []) p = (omega arith, λ _. refl)
-plain_parts (c ∷ d ∷ ds) p = (omega arith, λ e. absurd (eqb-false c 48 (not-true _ p) e))
+plain_parts (c ∷ d ∷ ds) p = (omega arith, λ e. grind (arith, common_steps))
 
 pub number_was : (bs : List ℕ) (n : ℕ) (rest : List ℕ) → number bs ≡ Some (n, rest) → (bs ≡ decimal n ++ rest) × (n < 2 ^ 32)
-number_was bs n rest e = go (is_number (digits bs)) refl e where
-  go : (b : Bool) → is_number (digits bs) ≡ b → cond {A = Option (ℕ × List ℕ)} b (Some (value_from 0 (digits bs), after_digits bs)) None ≡ Some (n, rest)
-      → (bs ≡ decimal n ++ rest) × (n < 2 ^ 32)
-  go false t e = absurd (none_not_some e)
-  go true t e =
-      let p = and_parts _ _ t in
-      let parts = plain_parts (digits bs) p.0 in
-      let small : value_from 0 (digits bs) < 2 ^ 32 = ltb-true _ _ p.1 in
-      let d : decimal (value_from 0 (digits bs)) ≡ digits bs =
-      decimal-digits_value own (digits bs) (digits_all bs).0 parts.0 parts.1 (omega arith) in
-      let both : ◌≡◌ {A = ℕ × List ℕ} (value_from 0 (digits bs), after_digits bs) (n, rest) = cc in
-      let v : value_from 0 (digits bs) ≡ n = ap (λ x. x.0) both in
-      let r : after_digits bs ≡ rest = ap (λ x. x.1) both in
-      (sym (digits_all bs).1 ∙ ap (λ ds. ds ++ after_digits bs) (sym d) ∙ (λ i. decimal (v i) ++ r i), omega arith)
+number_was bs n rest e =
+    let h = cond_some (is_number (digits bs)) (value_from 0 (digits bs), after_digits bs) (n, rest) e in
+    let p = and_parts _ _ h.0 in
+    let parts = plain_parts (digits bs) p.0 in
+    let small : value_from 0 (digits bs) < 2 ^ 32 = ltb-true _ _ p.1 in
+    let d : decimal (value_from 0 (digits bs)) ≡ digits bs =
+    decimal-digits_value own (digits bs) (digits_all bs).0 parts.0 parts.1 (omega arith) in
+    let v : value_from 0 (digits bs) ≡ n = ap (λ x. x.0) h.1 in
+    (sym (digits_all bs).1 ∙ ap (λ ds. ds ++ after_digits bs) (sym d) ∙ (λ i. decimal (v i) ++ (h.1 i).1), omega arith)
 
 -- a byte that is spelled
 pub byte_spelled : (b : ℕ) (rest : List ℕ) → byte b (b ∷ rest) ≡ Some rest
-byte_spelled b rest = cond-true _ _ _ (eq-eqb b b refl)
+byte_spelled b rest = grind arith
 
 pub byte_was : (b : ℕ) (bs rest : List ℕ) → byte b bs ≡ Some rest → bs ≡ b ∷ rest
-byte_was b [] rest e = absurd (none_not_some e)
-byte_was b (c ∷ cs) rest e = go (eqb c b) refl e where
-  go : (t : Bool) → eqb c b ≡ t → cond t (Some cs) None ≡ Some rest → c ∷ cs ≡ b ∷ rest
-  go true t e = let same : c ≡ b = eqb-true c b t in let left : cs ≡ rest = cc in λ i. same i ∷ left i
-  go false t e = absurd (none_not_some e)
+byte_was b [] rest e = cc
+byte_was b (c ∷ cs) rest e = let h = cond_some (eqb c b) cs rest e in λ i. eqb-true c b h.0 i ∷ h.1 i
 
 -- what came before, where something followed
 pub then_was : {A B : Type 0} (o : Option A) (f : A → Option B) (y : B) → and_then o f ≡ Some y → (x : A) × ((o ≡ Some x) × (f x ≡ Some y))
-then_was None f y e = absurd (none_not_some e)
+then_was None f y e = cc
 then_was (Some x) f y e = (x, (refl, e))
 
 pub then_some : {A B : Type 0} (o : Option A) (f : A → Option B) (x : A) → o ≡ Some x → and_then o f ≡ f x
