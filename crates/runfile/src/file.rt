@@ -1,6 +1,6 @@
 // A whole run file: its loom and all its turns, or the refusal.
 ghost use Rattle.std.specs.Prelude.{◌≡◌};
-ghost use Rattle.runfile.specs.Files.{file_of, turns_from, number_of, line_of};
+ghost use Rattle.runfile.specs.Files.{file_of, turns_from};
 ghost use Rattle.runfile.specs.Readers.{place, Read, ReadTurns, ReadsBack, Spelled};
 ghost use Rattle.runfile.specs.declared.file.ReadError.TheVariants.{Refused as IsRefused, NoMemory as IsNoMemory};
 
@@ -24,30 +24,6 @@ pub struct RunFile {
 pub enum ReadError {
     Refused(Refusal),
     NoMemory,
-}
-
-impl Refusal {
-    pub fn number(self) -> u32
-        ensures { result ≡ number_of self }
-    {
-        match self {
-            Refusal::TooLong => 20,
-            Refusal::BadFirstLine => 21,
-            Refusal::BadTurn { .. } => 22,
-            Refusal::TooManyTurns { .. } => 23,
-        }
-    }
-
-    // The line that is refused; 0 for the file as a whole.
-    pub fn line(self) -> u32
-        ensures { result ≡ line_of self }
-    {
-        match self {
-            Refusal::TooLong => 0,
-            Refusal::BadFirstLine => 1,
-            Refusal::BadTurn { line } | Refusal::TooManyTurns { line } => line,
-        }
-    }
 }
 
 impl From<Refusal> for ReadError {
@@ -82,7 +58,7 @@ fn read_all(heap: Global, bytes: &[u8]) -> Result<RunFile, ReadError>
     ensures { Read result (file_of bytes.now) }
 {
     if bytes.len() > MAX_BYTES {
-        return Err(ReadError::Refused(Refusal::TooLong));
+        return Err(Refusal::TooLong.into());
     }
     let (loom, reader) = FileReader::new(bytes).first_line()?;
     let turns = rest_of(heap, reader)?;

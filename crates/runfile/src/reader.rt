@@ -44,10 +44,8 @@ impl<'a> FileReader<'a> {
     pub fn first_line(self) -> Result<(Loom, TurnReader<'a>), Refusal>
         ensures { opened result ≡ first_line self.entry.bytes.now }
     {
-        match loom_at(self.bytes) {
-            Some((loom, rest)) => Ok((loom, TurnReader { rest, line: 2 })),
-            None => Err(Refusal::BadFirstLine),
-        }
+        let (loom, rest) = loom_at(self.bytes).ok_or(Refusal::BadFirstLine)?;
+        Ok((loom, TurnReader { rest, line: 2 }))
     }
 }
 
@@ -64,9 +62,7 @@ impl TurnReader<'_> {
         if line > LAST_TURN_LINE {
             return Err(Refusal::TooManyTurns { line });
         }
-        let Some((turn, rest)) = turn_at(self.rest) else {
-            return Err(Refusal::BadTurn { line });
-        };
+        let (turn, rest) = turn_at(self.rest).ok_or(Refusal::BadTurn { line })?;
         self.rest = rest;
         self.line = line + 1;
         Ok(Some(TurnLine { line, turn }))
