@@ -16,12 +16,6 @@ Next = Result (Option (Turn × Place)) Refusal
 abbrev pub placed : List ℕ → ℕ → Place
 placed bs line = record { rest = bs; line = line }
 
-pub err_not_ok : {A E : Type 0} {e : E} {x : A} → Err e ≡ Ok x → ⊥
-err_not_ok h = let z : ◌≡◌ {A = ℕ} 0 1 = cc in omega arith
-
-pub none_not_turn : {A E : Type 0} {x : A} → ◌≡◌ {A = Result (Option A) E} (Ok None) (Ok (Some x)) → ⊥
-none_not_turn h = let z : ◌≡◌ {A = ℕ} 0 1 = cc in omega arith
-
 -- the next turn, before what follows
 pub record NextSpelled (line : ℕ) (bs : List ℕ) (x : Turn × Place) : Type 0 where
   pub bytes : bs ≡ spell_turn x.0 ++ x.1.rest
@@ -30,27 +24,20 @@ pub record NextSpelled (line : ℕ) (bs : List ℕ) (x : Turn × Place) : Type 0
 
 after_was : (line : ℕ) (bs : List ℕ) (o : Option (Turn × List ℕ)) (x : Turn × Place) → turn_line bs ≡ o → after_turn line o ≡ Ok (Some x)
     → NextSpelled line bs x
-after_was line bs None x h e = absurd (err_not_ok e)
+after_was line bs None x h e = cc
 after_was line bs (Some y) x h e =
-    let same : ◌≡◌ {A = Turn × Place} (y.0, placed y.1 (line + 1)) x = cc in
     let w = turn_was bs y h in
+    let same : ◌≡◌ {A = Turn × Place} (y.0, placed y.1 (line + 1)) x = cc in
     subst (λ (z : Turn × Place). NextSpelled line bs z) same (record { bytes = w.0; fit = w.1; further = refl })
 
 pub next_was : (line : ℕ) (bs : List ℕ) (x : Turn × Place) → turn_at line bs ≡ Ok (Some x) → NextSpelled line bs x × (line < 4098)
-next_was line [] x e = absurd (none_not_turn e)
+next_was line [] x e = cc
 next_was line (c ∷ cs) x e = go (leb 4098 line) refl e where
   go : (b : Bool) → leb 4098 line ≡ b → cond b (Err (TooManyTurns line)) (after_turn line (turn_line (c ∷ cs))) ≡ Ok (Some x)
       → NextSpelled line (c ∷ cs) x × (line < 4098)
-  go true l e = absurd (err_not_ok e)
+  go true l e = cc
   go false l e = (after_was line (c ∷ cs) (turn_line (c ∷ cs)) x refl e, leb-false 4098 line l)
-
-after_not_none : (line : ℕ) (o : Option (Turn × List ℕ)) → after_turn line o ≡ Ok None → ⊥
-after_not_none line None e = err_not_ok e
-after_not_none line (Some y) e = let z : ◌≡◌ {A = ℕ} 0 1 = cc in omega arith
 
 pub none_was : (line : ℕ) (bs : List ℕ) → turn_at line bs ≡ Ok None → bs ≡ []
 none_was line [] e = refl
-none_was line (c ∷ cs) e = go (leb 4098 line) e where
-  go : (b : Bool) → cond b (Err (TooManyTurns line)) (after_turn line (turn_line (c ∷ cs))) ≡ Ok None → c ∷ cs ≡ []
-  go true e = absurd (err_not_ok e)
-  go false e = absurd (after_not_none line (turn_line (c ∷ cs)) e)
+none_was line (c ∷ cs) e = grind arith

@@ -1,5 +1,5 @@
 -- Files that are spelled are read back, and what is read was spelled so. Assumes nothing.
-use Rattle.std.proofs.Common.{◌≡◌, ℕ, zero, suc, ◌+◌, ◌-◌, ◌<◌, ◌≤◌, Bool, true, false, cond, leb, List, [], ◌∷◌, ◌++◌, length, Some, None, Ok, Err, vec_items, Option, Result, sym, refl, ap, ◌∙◌, subst, arith}
+use Rattle.std.proofs.Common.{◌≡◌, ℕ, zero, suc, ◌+◌, ◌-◌, ◌<◌, ◌≤◌, Bool, true, false, cond, leb, List, [], ◌∷◌, ◌++◌, length, Some, None, Ok, Err, vec_items, Option, Result, refl, ap, ◌∙◌, subst, arith}
 use Rattle.std.specs.List.{flat_map, AllByRecursion}
 use Rattle.std.proofs.lemmas.Bool.{cond-true, cond-false, le-leb, lt-leb}
 use Rattle.turns.specs.declared.turn.Turn.{Turn}
@@ -8,12 +8,11 @@ use Rattle.runfile.specs.Files.{Place, after_loom, first_line, after_turn, next_
 use Rattle.lines.specs.Spelling.{spell_turn, spell_loom, spell_file, FitLoom, FitTurn, SpelledBy}
 use Rattle.runfile.specs.Readers.{Read, ReadsBack, Spelled}
 use Rattle.runfile.specs.declared.file.ReadError.{ReadError}
-use Rattle.runfile.specs.declared.file.ReadError.TheVariants.{Refused, NoMemory}
 use Rattle.runfile.specs.declared.file.RunFile.{RunFile}
 use Rattle.lines.specs.declared.loom.Loom.{Loom}
 use Rattle.runfile.specs.declared.refusal.Refusal.{Refusal}
 use Rattle.runfile.specs.declared.refusal.Refusal.TheVariants.{TooLong}
-use Rattle.runfile.proofs.Next.{Next, placed, err_not_ok, next_was, none_was}
+use Rattle.runfile.proofs.Next.{Next, placed, next_was, none_was}
 use Rattle.runfile.proofs.Turns.{turns_none, turns_some}
 use Rattle.lines.proofs.SpelledLines.{turn_spelled}
 use Rattle.lines.proofs.SpelledLooms.{loom_spelled, loom_was}
@@ -44,7 +43,7 @@ pub record TurnsSpelled (at : Place) (ts : List Turn) : Type 0 where
 
 before_was : (t : Turn) (r : Result (List Turn) Refusal) (ts : List Turn) → before t r ≡ Ok ts → (us : List Turn) × ((r ≡ Ok us) × (t ∷ us ≡ ts))
 before_was t (Ok us) ts e = (us, (refl, (cc)))
-before_was t (Err f) ts e = absurd (err_not_ok e)
+before_was t (Err f) ts e = cc
 
 -- all turns, by the next one and what is said of those after it
 go_on_was : (at : Place) (n : Next) (more : Place → Result (List Turn) Refusal) (ts : List Turn) → next_turn at ≡ n
@@ -63,7 +62,7 @@ go_on_was at (Ok (Some x)) more ts n rest e =
       fit = (next.0.fit, others.fit);
       few = omega (arith, next.1, next.0.further, others.few);
     })
-go_on_was at (Err f) more ts n rest e = absurd (err_not_ok e)
+go_on_was at (Err f) more ts n rest e = cc
 
 turns_was : (m : ℕ) (at : Place) (ts : List Turn) → 4098 ≤ m + at.line → turns_from m at ≡ Ok ts → TurnsSpelled at ts
 unfolding turns_from
@@ -74,12 +73,11 @@ turns_was (suc m) at ts h e =
     (λ x us n g. let w = next_was at.line at.rest x n in turns_was m x.1 us (omega (arith, w.0.further)) g) e
 
 with_was : (loom : Loom) (r : Result (List Turn) Refusal) (x : Loom × List Turn) → with_loom loom r ≡ Ok x → (r ≡ Ok x.1) × (loom ≡ x.0)
-with_was loom (Ok ts) x e = let same : ◌≡◌ {A = Loom × List Turn} (loom, ts) x = cc in (ap (λ z. Ok z.1) same, ap (λ z. z.0) same)
-with_was loom (Err f) x e = absurd (err_not_ok e)
+with_was loom r x e = grind arith
 
 first_was : (bs : List ℕ) (o : Option (Loom × List ℕ)) (x : Loom × List Turn) → loom_line bs ≡ o → after_first (after_loom o) ≡ Ok x
     → SpelledBy bs x.0 x.1
-first_was bs None x h e = absurd (err_not_ok e)
+first_was bs None x h e = cc
 first_was bs (Some y) x h e =
     let w = with_was y.0 (turns_from 4096 (placed y.1 2)) x e in
     let first = loom_was bs y h in
@@ -95,18 +93,13 @@ pub file_was : (bs : List ℕ) (x : Loom × List Turn) → file_of bs ≡ Ok x �
 file_was bs x e = go (leb (length bs) 32768) e where
   go : (b : Bool) → cond b (after_first (first_line bs)) (Err TooLong) ≡ Ok x → SpelledBy bs x.0 x.1
   go true e = first_was bs (loom_line bs) x refl e
-  go false e = absurd (err_not_ok e)
+  go false e = cc
 
 -- the laws of reading, from what was read
-told_spelled : (bs : List ℕ) (r : Result RunFile ReadError) (x : Loom × List Turn) → file_of bs ≡ Ok x → Read r (file_of bs) → Read r (Ok x)
-told_spelled bs (Ok file) x e h = sym e ∙ h
-told_spelled bs (Err (Refused f)) x e h = sym e ∙ h
-told_spelled bs (Err NoMemory) x e h = tt
-
 pub reads_back : (bs : List ℕ) (r : Result RunFile ReadError) → Read r (file_of bs) → ReadsBack bs r
 reads_back bs r h loom ts fl ft few short e =
-    told_spelled bs r (loom, ts)
-    (ap file_of e ∙ file_spelled loom ts fl ft few (subst (λ (cs : List ℕ). length cs ≤ 32768) e short)) h
+    let meant = file_spelled loom ts fl ft few (subst (λ (cs : List ℕ). length cs ≤ 32768) e short) in
+    subst (λ m. Read r m) (ap file_of e ∙ meant) h
 
 pub spelled : (bs : List ℕ) (r : Result RunFile ReadError) → Read r (file_of bs) → Spelled bs r
 spelled bs (Ok file) h = file_was bs (file.loom, vec_items file.turns) h

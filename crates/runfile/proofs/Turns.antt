@@ -1,11 +1,10 @@
 -- Reading one turn after the other gives all turns. Assumes nothing.
-use Rattle.std.proofs.Common.{◌≡◌, ℕ, zero, suc, ◌+◌, ◌-◌, ◌<◌, ◌≤◌, List, [], ◌∷◌, ◌++◌, Some, None, Ok, Err, Option, Result, sym, refl, ap, ◌∙◌, subst, arith}
+use Rattle.std.proofs.Common.{◌≡◌, ℕ, zero, suc, ◌+◌, ◌-◌, ◌<◌, ◌≤◌, List, [], ◌∷◌, ◌++◌, Some, None, Ok, Err, Result, sym, refl, ap, ◌∙◌, subst, arith}
 use Rattle.std.proofs.lemmas.List.{append-nil, append_assoc}
 use Rattle.turns.specs.declared.turn.Turn.{Turn}
-use Rattle.lines.specs.Lines.{loom_line}
-use Rattle.runfile.specs.Files.{Place, after_loom, first_line, next_turn, moved, before, go_on, turns_from}
+use Rattle.runfile.specs.Files.{Place, first_line, next_turn, moved, before, go_on, turns_from}
 use Rattle.runfile.specs.Readers.{numbered}
-use Rattle.runfile.proofs.Next.{Next, err_not_ok, none_not_turn, next_was}
+use Rattle.runfile.proofs.Next.{Next, next_was}
 use Rattle.lines.specs.declared.loom.Loom.{Loom}
 use Rattle.runfile.specs.declared.reader.TurnLine.{TurnLine}
 use Rattle.runfile.specs.declared.refusal.Refusal.{Refusal}
@@ -32,8 +31,7 @@ prefixed ts (Ok us) = Ok (ts ++ us)
 prefixed ts (Err e) = Err e
 
 prefixed_before : (ts : List Turn) (t : Turn) (r : Result (List Turn) Refusal) → prefixed ts (before t r) ≡ prefixed (ts ++ t ∷ []) r
-prefixed_before ts t (Ok us) = ap Ok (sym (append_assoc ts (t ∷ []) us))
-prefixed_before ts t (Err e) = refl
+prefixed_before ts t r = grind (arith, append_assoc)
 
 -- The turns ts are read, and the reader stands at a place from which the others follow.
 pub record Halfway (start : Place) (ts : List Turn) (at : Place) : Type 0 where
@@ -68,19 +66,15 @@ halfway_err start ts at f h e = sym h.whole ∙ ap (prefixed ts) (turns_err (409
 
 -- what the reader answered, undone
 pub from_some : (line : ℕ) (n : Next) (t : TurnLine) → Ok (Some t) ≡ numbered line n → (x : Turn × Place) × ((n ≡ Ok (Some x)) × (t.turn ≡ x.0))
-from_some line (Ok None) t e = absurd (none_not_turn (sym e))
+from_some line (Ok None) t e = cc
 from_some line (Ok (Some x)) t e = (x, (refl, (let same : ◌≡◌ {A = TurnLine} t (record { line = line; turn = x.0 }) = cc in ap (λ z. z.turn) same)))
-from_some line (Err f) t e = absurd (err_not_ok (sym e))
+from_some line (Err f) t e = cc
 
 pub from_none : (line : ℕ) (n : Next) → Ok None ≡ numbered line n → n ≡ Ok None
-from_none line (Ok None) e = refl
-from_none line (Ok (Some x)) e = absurd (none_not_turn e)
-from_none line (Err f) e = absurd (err_not_ok (sym e))
+from_none line n e = grind arith
 
 pub from_err : (line : ℕ) (n : Next) (f : Refusal) → Err f ≡ numbered line n → n ≡ Err f
-from_err line (Ok None) f e = absurd (err_not_ok e)
-from_err line (Ok (Some x)) f e = absurd (err_not_ok e)
-from_err line (Err g) f e = let same : ◌≡◌ {A = Refusal} g f = cc in ap Err same
+from_err line n f e = grind arith
 
 -- one turn of the loop, by what the reader answered and where it then stands
 pub step : (start : Place) (ts : List Turn) (at to : Place) (t : TurnLine) → Halfway start ts at → Ok (Some t) ≡ numbered at.line (next_turn at)
@@ -97,9 +91,5 @@ step start ts at to t h answer after =
     )
 
 -- the turns begin in line 2
-after_two : (o : Option (Loom × List ℕ)) (x : Loom × Place) → Ok x ≡ after_loom o → x.1.line ≡ 2
-after_two None x e = absurd (err_not_ok (sym e))
-after_two (Some y) x e = let same : ◌≡◌ {A = Loom × Place} x (y.0, record { rest = y.1; line = 2 }) = cc in ap (λ z. z.1.line) same
-
 pub first_two : (bs : List ℕ) (x : Loom × Place) → Ok x ≡ first_line bs → x.1.line ≡ 2
-first_two bs x e = after_two (loom_line bs) x e
+first_two bs x e = grind arith
