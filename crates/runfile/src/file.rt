@@ -54,8 +54,13 @@ fn rest_of(heap: Global, mut reader: TurnReader) -> Result<Vec<Turn>, ReadError>
     Ok(turns)
 }
 
-fn read_all(heap: Global, bytes: &[u8]) -> Result<RunFile, ReadError>
-    ensures { Read result (file_of bytes.now) }
+// Reads what the bytes mean. By the laws, they are taken just where they spell a loom and turns
+// within bounds, and are then read as that loom and those turns.
+#[tactic(auto, using(crate::proofs::SpelledFiles::reads_back, crate::proofs::SpelledFiles::spelled))]
+pub fn read(heap: Global, bytes: &[u8]) -> Result<RunFile, ReadError>
+    ensures meant { Read result (file_of bytes.now) }
+    ensures reads_back { ReadsBack bytes.now result }
+    ensures spelled { Spelled bytes.now result }
 {
     if bytes.len() > MAX_BYTES {
         return Err(Refusal::TooLong.into());
@@ -63,14 +68,4 @@ fn read_all(heap: Global, bytes: &[u8]) -> Result<RunFile, ReadError>
     let (loom, reader) = FileReader::new(bytes).first_line()?;
     let turns = rest_of(heap, reader)?;
     Ok(RunFile { loom, turns })
-}
-
-// Reads what the bytes mean. By the laws, they are taken just where they spell a loom and turns
-// within bounds, and are then read as that loom and those turns.
-pub fn read(heap: Global, bytes: &[u8]) -> Result<RunFile, ReadError>
-    ensures meant { Read result (file_of bytes.now) }
-    ensures reads_back { ReadsBack bytes.now result }
-    ensures spelled { Spelled bytes.now result }
-{
-    read_all(heap, bytes)
 }
