@@ -2,21 +2,9 @@
 use Rattle.std.specs.Prelude.{ℕ, List, ◌++◌, length, Ok, Err, codes, decimal, Result}
 use Rattle.turns.specs.declared.turn.Turn.{Turn}
 use Rattle.runfile.specs.Files.{number_of, line_of}
-use Rattle.lines.specs.declared.loom.StoreKind.{StoreKind}
-use Rattle.lines.specs.declared.loom.StoreKind.TheVariants.{Slots, Journal}
-use Rattle.lines.specs.declared.loom.PartKind.{PartKind}
-use Rattle.lines.specs.declared.loom.PartKind.TheVariants.{Harness, Feed}
+use Rattle.lines.specs.Names.{part_name, store_name}
 use Rattle.lines.specs.declared.loom.Loom.{Loom}
 use Rattle.runfile.specs.declared.refusal.Refusal.{Refusal}
-
-abbrev pub part_name : PartKind → List ℕ
-part_name Harness = codes "harness"
-part_name Feed = codes "feed"
-
--- for a slot store: slot store; for a journal: journal of e places
-abbrev pub store_name : StoreKind → List ℕ
-store_name Slots = codes "slot store"
-store_name (Journal places) = codes "journal of " ++ (decimal places ++ codes " places")
 
 -- what a file holds, in one line
 abbrev pub summary : Loom → ℕ → List ℕ
