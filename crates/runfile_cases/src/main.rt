@@ -6,21 +6,22 @@
 use runner::answer;
 use std::fs;
 
+fn byte_of(letter: u8) -> u8 {
+    match letter {
+        b'|' => b'\n',
+        b'~' => b'\r',
+        b'^' => b'\t',
+        _ => letter,
+    }
+}
+
 fn add_piece(file: &mut Vec<u8>, piece: &str) -> anyhow::Result<()> {
     let (times, text) = match piece.split_once('*') {
         Some((count, text)) => (count.parse::<u32>()?, text),
         None => (1, piece),
     };
     for _ in 0..times {
-        for b in text.bytes() {
-            let byte = match b {
-                b'|' => b'\n',
-                b'~' => b'\r',
-                b'^' => b'\t',
-                _ => b,
-            };
-            file.push(byte)?;
-        }
+        file.extend(text.bytes().map(byte_of))?;
     }
     Ok(())
 }
