@@ -17,26 +17,32 @@ pub halfway_none : (n : ℕ) (bs ns : List ℕ) → length ns ≡ n → Halfway 
 halfway_none n bs ns e = record { full = e; whole = let all : n - 0 ≡ n = omega arith in rw all (search rules) }
 
 -- what follows, by its first number
-by_next : {n : ℕ} {bs ns : List ℕ} {k : ℕ} {rest : List ℕ} (o : Option (ℕ × List ℕ)) → Halfway n bs ns k rest → k < n → field rest ≡ o
+by_next : {n : ℕ} {bs ns : List ℕ} {k : ℕ} {rest : List ℕ} (o : Option (ℕ × List ℕ))
+    → Halfway n bs ns k rest → k < n → field rest ≡ o
     → fields n bs ≡ prefixed (take k ns) (and_then o (λ a. and_then (fields (n - (k + 1)) a.1) (λ b. Some (a.0 ∷ b.0, b.1))))
 by_next {n = n} {k = k} o h l e =
     let more : n - k ≡ suc (n - (k + 1)) = omega arith in
     h.whole ∙ rw (more, e) refl
 
-pub halfway_more : {n : ℕ} {bs ns : List ℕ} {k : ℕ} {rest : List ℕ} (x : ℕ × List ℕ) → Halfway n bs ns k rest → k < n → field rest ≡ Some x
+pub halfway_more : {n : ℕ} {bs ns : List ℕ} {k : ℕ} {rest : List ℕ} (x : ℕ × List ℕ)
+    → Halfway n bs ns k rest → k < n → field rest ≡ Some x
     → Halfway n bs (set ns k x.0) (k + 1) x.1
 halfway_more {n = n} {ns = ns} {k = k} x h l e = record {
   full = simp length-set h.full;
-  whole = by_next (Some x) h l e ∙ later (fields (n - (k + 1)) x.1) ∙ ap (λ ms. prefixed ms (fields (n - (k + 1)) x.1)) (sym (take_more_set ns k x.0 (omega (arith, h.full))));
+  whole = by_next (Some x) h l e ∙ later (fields (n - (k + 1)) x.1)
+      ∙ ap (λ ms. prefixed ms (fields (n - (k + 1)) x.1)) (sym (take_more_set ns k x.0 (omega (arith, h.full))));
 } where
-  later : (o : Option (List ℕ × List ℕ)) → prefixed (take k ns) (and_then o (λ b. Some (x.0 ∷ b.0, b.1))) ≡ prefixed (take k ns ++ x.0 ∷ []) o
+  later : (o : Option (List ℕ × List ℕ))
+      → prefixed (take k ns) (and_then o (λ b. Some (x.0 ∷ b.0, b.1))) ≡ prefixed (take k ns ++ x.0 ∷ []) o
   later o = grind (arith, append_assoc)
 
-pub halfway_err : {n : ℕ} {bs ns : List ℕ} {k : ℕ} {rest : List ℕ} → Halfway n bs ns k rest → k < n → field rest ≡ None → fields n bs ≡ None
+pub halfway_err : {n : ℕ} {bs ns : List ℕ} {k : ℕ} {rest : List ℕ}
+    → Halfway n bs ns k rest → k < n → field rest ≡ None → fields n bs ≡ None
 halfway_err h l e = by_next None h l e
 
 -- all are read, and the line's end follows
-pub halfway_end : {n : ℕ} {bs ns : List ℕ} {k : ℕ} {rest : List ℕ} (o : Option (List ℕ)) → Halfway n bs ns k rest → n ≤ k → byte 10 rest ≡ o
+pub halfway_end : {n : ℕ} {bs ns : List ℕ} {k : ℕ} {rest : List ℕ} (o : Option (List ℕ))
+    → Halfway n bs ns k rest → n ≤ k → byte 10 rest ≡ o
     → fields n bs ≡ and_then o (λ r. Some (ns, r))
 halfway_end {n = n} {ns = ns} {k = k} {rest = rest} o h l e =
     let none : n - k ≡ 0 = omega arith in

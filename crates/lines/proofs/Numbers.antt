@@ -18,10 +18,12 @@ value_over v m i ds l h =
     let grown = value_ge (v * 10 + (get_or ds i 0 - 48)) (drop (i + 1) ds) in
     omega (arith, more, grown)
 
-digits_front : (bs : List ℕ) → (digits bs ≡ take (prefix_len is_ascii_digit bs) bs) × (after_digits bs ≡ drop (prefix_len is_ascii_digit bs) bs)
+digits_front : (bs : List ℕ)
+    → (digits bs ≡ take (prefix_len is_ascii_digit bs) bs) × (after_digits bs ≡ drop (prefix_len is_ascii_digit bs) bs)
 digits_front [] = (refl, refl)
 digits_front (c ∷ cs) = go (is_ascii_digit c) (digits_front cs) where
-  go : (b : Bool) → (digits cs ≡ take (prefix_len is_ascii_digit cs) cs) × (after_digits cs ≡ drop (prefix_len is_ascii_digit cs) cs)
+  go : (b : Bool)
+      → (digits cs ≡ take (prefix_len is_ascii_digit cs) cs) × (after_digits cs ≡ drop (prefix_len is_ascii_digit cs) cs)
       → (cond b (c ∷ digits cs) [] ≡ take (cond b (1 + prefix_len is_ascii_digit cs) 0) (c ∷ cs))
       × (cond b (after_digits cs) (c ∷ cs) ≡ drop (cond b (1 + prefix_len is_ascii_digit cs) 0) (c ∷ cs))
   go true e = (grind (arith, common_steps, e.0), grind (arith, common_steps, e.1))

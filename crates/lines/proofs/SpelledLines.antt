@@ -17,7 +17,8 @@ Small ns = AllByRecursion (λ n. n < 2 ^ 32) ns
 
 fields_cons : (a : ℕ) (ns rest : List ℕ) → spell_fields (a ∷ ns) ++ rest ≡ spell_field a ++ (spell_fields ns ++ rest)
 fields_cons a ns rest =
-    ap (λ xs. xs ++ rest) (append_assoc (spell_field a) (flat_map spell_field ns) (10 ∷ [])) ∙ append_assoc (spell_field a) (spell_fields ns) rest
+    ap (λ xs. xs ++ rest) (append_assoc (spell_field a) (flat_map spell_field ns) (10 ∷ []))
+    ∙ append_assoc (spell_field a) (spell_fields ns) rest
 
 -- the first of some fields
 next_field : (a : ℕ) (ns rest : List ℕ) → a < 2 ^ 32 → field (spell_fields (a ∷ ns) ++ rest) ≡ Some (a, spell_fields ns ++ rest)
@@ -31,7 +32,8 @@ fields_spelled (a ∷ ns) rest h =
     ∙ then_some (fields (length ns) (spell_fields ns ++ rest)) (λ b. Some (a ∷ b.0, b.1)) (ns, rest) (fields_spelled ns rest h.1)
 
 -- a value whose numbers are spelled is read back, if no other has these numbers
-read_back : {A : Type 0} {ns : A → List ℕ} {read : List ℕ → Option (A × List ℕ)} (a : A) (rest : List ℕ) → Listed (length (ns a)) ns read
+read_back : {A : Type 0} {ns : A → List ℕ} {read : List ℕ → Option (A × List ℕ)} (a : A) (rest : List ℕ)
+    → Listed (length (ns a)) ns read
     → ((y : A) → ns y ≡ ns a → y ≡ a) → Small (ns a) → read (spell_fields (ns a) ++ rest) ≡ Some (a, rest)
 read_back {ns = ns} {read = read} a rest l only small =
     let bs : List ℕ = spell_fields (ns a) ++ rest in
@@ -45,7 +47,8 @@ one_back a rest = read_back a rest one_listed (λ y e. cc)
 two_back : (a b : ℕ) (rest : List ℕ) → Small (a ∷ b ∷ []) → two_fields (spell_fields (a ∷ b ∷ []) ++ rest) ≡ Some ((a, b), rest)
 two_back a b rest = read_back (a, b) rest two_listed (λ y e. ap (λ ms. (get_or ms 0 0, get_or ms 1 0)) e)
 
-three_back : (a b c : ℕ) (rest : List ℕ) → Small (a ∷ b ∷ c ∷ []) → three_fields (spell_fields (a ∷ b ∷ c ∷ []) ++ rest) ≡ Some ((a, b, c), rest)
+three_back : (a b c : ℕ) (rest : List ℕ) → Small (a ∷ b ∷ c ∷ [])
+    → three_fields (spell_fields (a ∷ b ∷ c ∷ []) ++ rest) ≡ Some ((a, b, c), rest)
 three_back a b c rest = read_back (a, b, c) rest three_listed (λ y e. ap (λ ms. (get_or ms 0 0, get_or ms 1 0, get_or ms 2 0)) e)
 
 pub turn_spelled : (t : Turn) (rest : List ℕ) → FitTurn t → turn_line (spell_turn t ++ rest) ≡ Some (t, rest)
@@ -79,7 +82,8 @@ Was letter bs x = (letter ∷ bs ≡ spell_turn x.0 ++ x.1) × FitTurn x.0
 
 -- a turn made of numbers whose fields it has
 made_was : {A : Type 0} {n : ℕ} {ns : A → List ℕ} {read : List ℕ → Option (A × List ℕ)} → Listed n ns read
-    → (f : A → Turn) (l letter : ℕ) (bs : List ℕ) (x : Turn × List ℕ) → ((a : A) → (letter_of (f a) ≡ l) × (fields_of (f a) ≡ ns a)) → eqb letter l ≡ true
+    → (f : A → Turn) (l letter : ℕ) (bs : List ℕ) (x : Turn × List ℕ)
+    → ((a : A) → (letter_of (f a) ≡ l) × (fields_of (f a) ≡ ns a)) → eqb letter l ≡ true
     → made f (read bs) ≡ Some x → Was letter bs x
 made_was {n = n} {ns = ns} {read = read} listed f l letter bs x shape here e =
     let y = then_was (read bs) _ x e in

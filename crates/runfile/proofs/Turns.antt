@@ -30,7 +30,8 @@ abbrev pub prefixed : List Turn → Result (List Turn) Refusal → Result (List 
 prefixed ts (Ok us) = Ok (ts ++ us)
 prefixed ts (Err e) = Err e
 
-prefixed_before : (ts : List Turn) (t : Turn) (r : Result (List Turn) Refusal) → prefixed ts (before t r) ≡ prefixed (ts ++ t ∷ []) r
+prefixed_before : (ts : List Turn) (t : Turn) (r : Result (List Turn) Refusal)
+    → prefixed ts (before t r) ≡ prefixed (ts ++ t ∷ []) r
 prefixed_before ts t r = grind (arith, append_assoc)
 
 -- The turns ts are read, and the reader stands at a place from which the others follow.

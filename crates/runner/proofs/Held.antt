@@ -5,7 +5,8 @@ use Rattle.std.proofs.lemmas.List.{take_all, length-take-le}
 use Rattle.std.proofs.lemmas.Bool.{cond-false, leb-true, leb-false, lt-leb}
 use Rattle.runfile.specs.Files.{file_of}
 
-pub front : (o : Option (List ℕ)) (n : ℕ) (bs : List ℕ) → IfSome (option_map (take n) o) (λ xs. bs ≡ [] ++ xs) → IfSome o (λ all. bs ≡ take n all)
+pub front : (o : Option (List ℕ)) (n : ℕ) (bs : List ℕ) → IfSome (option_map (take n) o) (λ xs. bs ≡ [] ++ xs)
+    → IfSome o (λ all. bs ≡ take n all)
 front None n bs h = tt
 front (Some all) n bs h = h
 
@@ -19,6 +20,7 @@ front_means all = go (leb (length all) 32768) refl where
       let more : 32768 < length (take 32769 all) = omega arith in
       cond-false _ _ _ (lt-leb _ _ more) ∙ sym (cond-false _ _ _ e)
 
-pub means : (o : Option (List ℕ)) (bs : List ℕ) → IfSome o (λ all. bs ≡ take 32769 all) → IfSome o (λ all. file_of bs ≡ file_of all)
+pub means : (o : Option (List ℕ)) (bs : List ℕ) → IfSome o (λ all. bs ≡ take 32769 all)
+    → IfSome o (λ all. file_of bs ≡ file_of all)
 means None bs h = tt
 means (Some all) bs h = ap file_of h ∙ front_means all

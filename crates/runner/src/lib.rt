@@ -35,8 +35,8 @@ pub fn summary_line(heap: Global, loom: Loom, turns: usize) -> Result<String, Al
     ensures { IfOk result (λ s. string_bytes s ≡ summary loom turns) }
 {
     format!(in heap;
-        "{} boards, {}, {} records, {turns} turns\n",
-        loom.boards, loom.store, loom.part,
+        "{} boards, {}, {} records, {} turns\n",
+        loom.boards, loom.store, loom.part, turns,
     )
 }
 

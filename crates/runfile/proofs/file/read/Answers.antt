@@ -16,4 +16,5 @@ returns-clause-reads_back c =
     reads_back c.args.bytes.now (Ok (record { loom = c.in_ok-loom.loom; turns = c.in_ok-turns.turns })) (search rules)
 
 pub returns-clause-spelled : goal.returns-clause-spelled
-returns-clause-spelled c = spelled c.args.bytes.now (Ok (record { loom = c.in_ok-loom.loom; turns = c.in_ok-turns.turns })) (search rules)
+returns-clause-spelled c =
+    spelled c.args.bytes.now (Ok (record { loom = c.in_ok-loom.loom; turns = c.in_ok-turns.turns })) (search rules)
