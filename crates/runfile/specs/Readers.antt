@@ -11,16 +11,6 @@ use Rattle.runfile.specs.declared.file.ReadError.{ReadError}
 use Rattle.runfile.specs.declared.file.ReadError.TheVariants.{Refused, NoMemory}
 use Rattle.runfile.specs.declared.file.RunFile.{RunFile}
 use Rattle.runfile.specs.declared.reader.TurnLine.{TurnLine}
-use Rattle.runfile.specs.declared.reader.TurnReader.{TurnReader}
-
--- where a reader of turns stands
-abbrev pub place : TurnReader → Place
-place reader = record { rest = reader.rest.now; line = reader.line }
-
--- a loom, with where the reader of its turns stands
-abbrev pub opened : Result (Loom × TurnReader) Refusal → Result (Loom × Place) Refusal
-opened (Ok x) = Ok (x.0, place x.1)
-opened (Err e) = Err e
 
 -- a turn that was found at a line, with the number of that line
 abbrev pub numbered : ℕ → Result (Option (Turn × Place)) Refusal → Result (Option TurnLine) Refusal

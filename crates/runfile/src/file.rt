@@ -1,7 +1,7 @@
 // A whole run file: its loom and all its turns, or the refusal.
 ghost use Rattle.std.specs.Prelude.{◌≡◌};
 ghost use Rattle.runfile.specs.Files.{file_of, turns_from};
-ghost use Rattle.runfile.specs.Readers.{place, Read, ReadTurns, ReadsBack, Spelled};
+ghost use Rattle.runfile.specs.Readers.{Read, ReadTurns, ReadsBack, Spelled};
 ghost use Rattle.runfile.specs.declared.file.ReadError.TheVariants.{Refused as IsRefused, NoMemory as IsNoMemory};
 
 use crate::reader::{FileReader, TurnReader};
@@ -45,7 +45,7 @@ impl<T: Drop> From<AllocFailed<T>> for ReadError {
 // All turns that are still to come.
 fn rest_of(heap: Global, mut reader: TurnReader) -> Result<Vec<Turn>, ReadError>
     requires { reader.line ≡ 2 }
-    ensures { ReadTurns result (turns_from 4096 (place reader.entry)) }
+    ensures { ReadTurns result (turns_from 4096 reader.entry) }
 {
     let mut turns = Vec::new(heap);
     while let Some(next) = reader.next_turn()? {

@@ -2,12 +2,13 @@
 // cannot be read before the first line, since only `first_line` makes their reader.
 ghost use Rattle.std.specs.Prelude.{◌≡◌};
 ghost use Rattle.runfile.specs.Files.{first_line, next_turn, moved};
-ghost use Rattle.runfile.specs.Readers.{place, numbered, opened};
+ghost use Rattle.runfile.specs.Readers.{numbered};
 
 use crate::refusal::Refusal;
 use lines::loom::Loom;
 use lines::loom_line::loom_at;
 use lines::turn_line::turn_at;
+use std::marker::Model;
 use turns::turn::Turn;
 
 // the last line that may hold a turn
@@ -33,16 +34,34 @@ pub struct TurnReader<'a> {
     line: u32,
 }
 
+// It is seen as the bytes to come,
+impl<'a> Model for FileReader<'a> {
+    ghost use Rattle.std.specs.Prelude.{ℕ, List};
+
+    ghost Value = { List ℕ };
+
+    ghost view = { λ reader. reader.bytes.now };
+}
+
+// and this one as where it stands.
+impl<'a> Model for TurnReader<'a> {
+    ghost use Rattle.runfile.specs.Files.{Place};
+
+    ghost Value = { Place };
+
+    ghost view = { λ reader. record { rest = reader.rest.now; line = reader.line } };
+}
+
 impl<'a> FileReader<'a> {
     pub fn new(bytes: &'a [u8]) -> FileReader<'a>
-        ensures { result.bytes.now ≡ bytes.now }
+        ensures { result ≡ bytes.now }
     {
         FileReader { bytes }
     }
 
     // The loom, and the reader of the turns.
     pub fn first_line(self) -> Result<(Loom, TurnReader<'a>), Refusal>
-        ensures { opened result ≡ first_line self.entry.bytes.now }
+        ensures { result ≡ first_line self.entry }
     {
         let (loom, rest) = loom_at(self.bytes).ok_or(Refusal::BadFirstLine)?;
         Ok((loom, TurnReader { rest, line: 2 }))
@@ -52,8 +71,8 @@ impl<'a> FileReader<'a> {
 impl TurnReader<'_> {
     // The next turn with its line; none at the file's end. A refusal leaves the reader as it was.
     pub fn next_turn(&mut self) -> Result<Option<TurnLine>, Refusal>
-        ensures answer { result ≡ numbered self.old.line (next_turn (place self.old)) }
-        ensures after { place self.new ≡ moved (place self.old) (next_turn (place self.old)) }
+        ensures answer { result ≡ numbered self.old.line (next_turn self.old) }
+        ensures after { self.new ≡ moved self.old (next_turn self.old) }
     {
         let line = self.line;
         if self.rest.is_empty() {

@@ -1,12 +1,11 @@
 use Rattle.std.proofs.Common.{Ok, rules}
-use Rattle.runfile.specs.Readers.{place}
 use Rattle.runfile.proofs.SpelledFiles.{reads_back, spelled}
 use Rattle.runfile.proofs.Turns.{first_two}
 use Rattle.runfile.proofs.file.read.Goals as goal
 
 pub rest_of-requires : goal.rest_of-requires
 rest_of-requires c =
-    first_two c.new.result.bytes.now (c.in_ok-loom.loom, place c.in_ok-loom.reader) c.in_ok-loom.ensures
+    first_two c.new.result (c.in_ok-loom.loom, c.in_ok-loom.reader) c.in_ok-loom.ensures
 
 pub returns-in_err-turns-clause-reads_back : goal.returns-in_err-turns-clause-reads_back
 returns-in_err-turns-clause-reads_back c = reads_back c.args.bytes.now c.from_residual-in_err-turns.result (search rules)
