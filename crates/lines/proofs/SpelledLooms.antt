@@ -58,7 +58,8 @@ part_was l Feed h = grind (arith, common_steps)
 abbrev pub loom_from : ℕ → StoreKind → PartKind → Loom
 loom_from n s k = record { boards = n; store = s; part = k }
 
-loom_made : (n : ℕ) (s : StoreKind) (k : PartKind) → FitLoom (loom_from n s k) → loom_of n (store_letter s) (places_of s) (part_letter k) ≡ Some (loom_from n s k)
+loom_made : (n : ℕ) (s : StoreKind) (k : PartKind) → FitLoom (loom_from n s k)
+    → loom_of n (store_letter s) (places_of s) (part_letter k) ≡ Some (loom_from n s k)
 loom_made n s k f = let a = store_spelled n s f.2 in let b = part_spelled k in grind (arith, common_steps, a, b, f.0, f.1)
 
 -- a loom was made of these
@@ -78,7 +79,13 @@ loom_was_made n l e m loom =
     let k = then_was (part_of m) _ loom s.1.1 in
     let w = store_was n l e s.0 s.1.0 in
     subst (λ (z : Loom). Made n l e m z) (same_Some (loom_from n s.0 k.0) loom k.1.1)
-    (record { fit = (leb-true 1 n p.0, leb-true n 19 p.1, w.2); boards = refl; store = w.0; places = w.1; part = part_was m k.0 k.1.0 }))
+    (record {
+      fit = (leb-true 1 n p.0, leb-true n 19 p.1, w.2);
+      boards = refl;
+      store = w.0;
+      places = w.1;
+      part = part_was m k.0 k.1.0;
+    }))
     (λ h. cc)
 
 -- the first line with what follows it
@@ -91,7 +98,8 @@ laid_is : (loom : Loom) (rest : List ℕ) → spell_loom loom ++ rest ≡ laid l
 laid_is loom rest =
     ap (λ xs. codes "LOOM" ++ xs)
     (append_assoc (spell_field loom.boards) _ rest
-    ∙ ap (λ xs. spell_field loom.boards ++ (32 ∷ store_letter loom.store ∷ xs)) (append_assoc (spell_field (places_of loom.store)) _ rest))
+    ∙ ap (λ xs. spell_field loom.boards ++ (32 ∷ store_letter loom.store ∷ xs))
+    (append_assoc (spell_field (places_of loom.store)) _ rest))
 
 few_places : (n : ℕ) (s : StoreKind) → FitStore n s → places_of s < 2 ^ 32
 few_places n Slots f = omega arith
@@ -101,7 +109,8 @@ pub loom_spelled : (loom : Loom) (rest : List ℕ) → FitLoom loom → loom_lin
 loom_spelled loom rest f =
     let tail : List ℕ = 32 ∷ part_letter loom.part ∷ (10 ∷ rest) in
     let mid : List ℕ = 32 ∷ store_letter loom.store ∷ (spell_field (places_of loom.store) ++ tail) in
-    let n : field (spell_field loom.boards ++ mid) ≡ Some (loom.boards, mid) = field_spelled loom.boards 32 _ (omega (arith, f.1)) refl in
+    let n : field (spell_field loom.boards ++ mid) ≡ Some (loom.boards, mid) =
+    field_spelled loom.boards 32 _ (omega (arith, f.1)) refl in
     let e : field (spell_field (places_of loom.store) ++ tail) ≡ Some (places_of loom.store, tail) =
     field_spelled (places_of loom.store) 32 _ (few_places loom.boards loom.store f.2) refl in
     let m = loom_made loom.boards loom.store loom.part f in
@@ -110,7 +119,8 @@ loom_spelled loom rest f =
 
 -- the line, put together from its pieces
 laid_from : {bs w nr sr pr kr rest : List ℕ} {n l e m : ℕ} (loom : Loom) → Made n l e m loom
-    → bs ≡ codes "LOOM" ++ w → w ≡ spell_field n ++ nr → nr ≡ 32 ∷ l ∷ sr → sr ≡ spell_field e ++ pr → pr ≡ 32 ∷ m ∷ kr → kr ≡ 10 ∷ rest
+    → bs ≡ codes "LOOM" ++ w → w ≡ spell_field n ++ nr → nr ≡ 32 ∷ l ∷ sr
+    → sr ≡ spell_field e ++ pr → pr ≡ 32 ∷ m ∷ kr → kr ≡ 10 ∷ rest
     → bs ≡ laid loom rest
 laid_from loom d hw hn hs he hk hr =
     let tail = hk ∙ (λ i. 32 ∷ d.part i ∷ hr i) in

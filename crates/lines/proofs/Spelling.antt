@@ -31,7 +31,8 @@ decimal_zero : (n : ℕ) → n < 2 ^ 64 → get_or (decimal n) 0 0 ≡ 48 → le
 decimal_zero zero h z = ap length (decimal_digit 0 (omega arith))
 decimal_zero (suc n) h z = absurd (let f = first_decimal (suc n) (omega arith) h in omega (arith, f, z))
 
-pub number_spelled : (n c : ℕ) (rest : List ℕ) → n < 2 ^ 32 → is_ascii_digit c ≡ false → number (decimal n ++ c ∷ rest) ≡ Some (n, c ∷ rest)
+pub number_spelled : (n c : ℕ) (rest : List ℕ) → n < 2 ^ 32 → is_ascii_digit c ≡ false
+    → number (decimal n ++ c ∷ rest) ≡ Some (n, c ∷ rest)
 number_spelled n c rest small other =
     let large : n < 2 ^ 64 = omega arith in
     let d = digits-before (decimal n) c rest (digits_decimal own n large) other in
@@ -70,7 +71,8 @@ byte_was b [] rest e = cc
 byte_was b (c ∷ cs) rest e = let h = cond_some (eqb c b) cs rest e in λ i. eqb-true c b h.0 i ∷ h.1 i
 
 -- what came before, where something followed
-pub then_was : {A B : Type 0} (o : Option A) (f : A → Option B) (y : B) → and_then o f ≡ Some y → (x : A) × ((o ≡ Some x) × (f x ≡ Some y))
+pub then_was : {A B : Type 0} (o : Option A) (f : A → Option B) (y : B) → and_then o f ≡ Some y
+    → (x : A) × ((o ≡ Some x) × (f x ≡ Some y))
 then_was None f y e = cc
 then_was (Some x) f y e = (x, (refl, e))
 
@@ -78,7 +80,8 @@ pub then_some : {A B : Type 0} (o : Option A) (f : A → Option B) (x : A) → o
 then_some o f x e = ap (λ p. and_then p f) e
 
 -- a space and a number
-pub field_spelled : (n c : ℕ) (rest : List ℕ) → n < 2 ^ 32 → is_ascii_digit c ≡ false → field (spell_field n ++ c ∷ rest) ≡ Some (n, c ∷ rest)
+pub field_spelled : (n c : ℕ) (rest : List ℕ) → n < 2 ^ 32 → is_ascii_digit c ≡ false
+    → field (spell_field n ++ c ∷ rest) ≡ Some (n, c ∷ rest)
 field_spelled n c rest small other =
     then_some _ number _ (byte_spelled 32 (decimal n ++ c ∷ rest)) ∙ number_spelled n c rest small other
 

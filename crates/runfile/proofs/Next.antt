@@ -22,7 +22,8 @@ pub record NextSpelled (line : ℕ) (bs : List ℕ) (x : Turn × Place) : Type 0
   pub fit : FitTurn x.0
   pub further : x.1.line ≡ line + 1
 
-after_was : (line : ℕ) (bs : List ℕ) (o : Option (Turn × List ℕ)) (x : Turn × Place) → turn_line bs ≡ o → after_turn line o ≡ Ok (Some x)
+after_was : (line : ℕ) (bs : List ℕ) (o : Option (Turn × List ℕ)) (x : Turn × Place)
+    → turn_line bs ≡ o → after_turn line o ≡ Ok (Some x)
     → NextSpelled line bs x
 after_was line bs None x h e = cc
 after_was line bs (Some y) x h e =

@@ -17,7 +17,8 @@ use Rattle.runfile.proofs.Turns.{turns_none, turns_some}
 use Rattle.lines.proofs.SpelledLines.{turn_spelled}
 use Rattle.lines.proofs.SpelledLooms.{loom_spelled, loom_was}
 
-next_spelled : (t : Turn) (bs : List ℕ) (line : ℕ) → FitTurn t → line < 4098 → next_turn (placed (spell_turn t ++ bs) line) ≡ Ok (Some (t, placed bs (line + 1)))
+next_spelled : (t : Turn) (bs : List ℕ) (line : ℕ) → FitTurn t → line < 4098
+    → next_turn (placed (spell_turn t ++ bs) line) ≡ Ok (Some (t, placed bs (line + 1)))
 next_spelled t bs line f l = cond-false _ _ _ (lt-leb 4098 line l) ∙ ap (after_turn line) (turn_spelled t bs f)
 
 turns_spelled : (m : ℕ) (ts : List Turn) (line : ℕ) → AllByRecursion FitTurn ts → length ts ≤ m → line + length ts ≤ 4098
@@ -28,7 +29,8 @@ turns_spelled (suc m) (t ∷ ts) line f h l =
     turns_some m _ _ (next_spelled t (flat_map spell_turn ts) line f.0 (omega arith))
     ∙ ap (before t) (turns_spelled m ts (line + 1) f.1 (omega arith) (omega arith))
 
-pub file_spelled : (loom : Loom) (ts : List Turn) → FitLoom loom → AllByRecursion FitTurn ts → length ts ≤ 4096 → length (spell_file loom ts) ≤ 32768
+pub file_spelled : (loom : Loom) (ts : List Turn)
+    → FitLoom loom → AllByRecursion FitTurn ts → length ts ≤ 4096 → length (spell_file loom ts) ≤ 32768
     → file_of (spell_file loom ts) ≡ Ok (loom, ts)
 file_spelled loom ts fl ft few short =
     cond-true _ _ _ (le-leb _ _ short)
@@ -41,7 +43,8 @@ pub record TurnsSpelled (at : Place) (ts : List Turn) : Type 0 where
   pub fit : AllByRecursion FitTurn ts
   pub few : length ts ≤ 4098 - at.line
 
-before_was : (t : Turn) (r : Result (List Turn) Refusal) (ts : List Turn) → before t r ≡ Ok ts → (us : List Turn) × ((r ≡ Ok us) × (t ∷ us ≡ ts))
+before_was : (t : Turn) (r : Result (List Turn) Refusal) (ts : List Turn) → before t r ≡ Ok ts
+    → (us : List Turn) × ((r ≡ Ok us) × (t ∷ us ≡ ts))
 before_was t (Ok us) ts e = (us, (refl, (cc)))
 before_was t (Err f) ts e = cc
 
@@ -51,7 +54,8 @@ go_on_was : (at : Place) (n : Next) (more : Place → Result (List Turn) Refusal
     → go_on n more ≡ Ok ts → TurnsSpelled at ts
 go_on_was at (Ok None) more ts n rest e =
     let none : ◌≡◌ {A = List Turn} [] ts = cc in
-    subst (λ (us : List Turn). TurnsSpelled at us) none (record { bytes = none_was at.line at.rest n; fit = tt; few = omega arith })
+    subst (λ (us : List Turn). TurnsSpelled at us) none
+    (record { bytes = none_was at.line at.rest n; fit = tt; few = omega arith })
 go_on_was at (Ok (Some x)) more ts n rest e =
     let b = before_was x.0 (more x.1) ts e in
     let next = next_was at.line at.rest x n in
@@ -72,10 +76,12 @@ turns_was (suc m) at ts h e =
     go_on_was at (next_turn at) _ ts refl
     (λ x us n g. let w = next_was at.line at.rest x n in turns_was m x.1 us (omega (arith, w.0.further)) g) e
 
-with_was : (loom : Loom) (r : Result (List Turn) Refusal) (x : Loom × List Turn) → with_loom loom r ≡ Ok x → (r ≡ Ok x.1) × (loom ≡ x.0)
+with_was : (loom : Loom) (r : Result (List Turn) Refusal) (x : Loom × List Turn)
+    → with_loom loom r ≡ Ok x → (r ≡ Ok x.1) × (loom ≡ x.0)
 with_was loom r x e = grind arith
 
-first_was : (bs : List ℕ) (o : Option (Loom × List ℕ)) (x : Loom × List Turn) → loom_line bs ≡ o → after_first (after_loom o) ≡ Ok x
+first_was : (bs : List ℕ) (o : Option (Loom × List ℕ)) (x : Loom × List Turn) → loom_line bs ≡ o
+    → after_first (after_loom o) ≡ Ok x
     → SpelledBy bs x.0 x.1
 first_was bs None x h e = cc
 first_was bs (Some y) x h e =

@@ -21,7 +21,8 @@ turns_none m at e = let t = turns_by m at in t.1 ∙ ap (λ n. go_on n t.0) e
 pub turns_err : (m : ℕ) (at : Place) (f : Refusal) → next_turn at ≡ Err f → turns_from m at ≡ Err f
 turns_err m at f e = let t = turns_by m at in t.1 ∙ ap (λ n. go_on n t.0) e
 
-pub turns_some : (m : ℕ) (at : Place) (x : Turn × Place) → next_turn at ≡ Ok (Some x) → turns_from (suc m) at ≡ before x.0 (turns_from m x.1)
+pub turns_some : (m : ℕ) (at : Place) (x : Turn × Place) → next_turn at ≡ Ok (Some x)
+    → turns_from (suc m) at ≡ before x.0 (turns_from m x.1)
 unfolding turns_from
 turns_some m at x e = ap (λ n. go_on n (turns_from m)) e
 
@@ -40,12 +41,15 @@ pub record Halfway (start : Place) (ts : List Turn) (at : Place) : Type 0 where
   pub whole : prefixed ts (turns_from (4098 - at.line) at) ≡ turns_from 4096 start
 
 pub halfway_none : (start : Place) → start.line ≡ 2 → Halfway start [] start
-halfway_none start e = record { few = omega (arith, e); whole = nothing (turns_from (4098 - start.line) start) ∙ ap (λ l. turns_from (4098 - l) start) e } where
+halfway_none start e = record {
+  few = omega (arith, e);
+  whole = nothing (turns_from (4098 - start.line) start) ∙ ap (λ l. turns_from (4098 - l) start) e;
+} where
   nothing : (r : Result (List Turn) Refusal) → prefixed [] r ≡ r
-  nothing (Ok us) = refl
-  nothing (Err f) = refl
+  nothing r = grind arith
 
-pub halfway_more : (start : Place) (ts : List Turn) (at : Place) (x : Turn × Place) → Halfway start ts at → next_turn at ≡ Ok (Some x)
+pub halfway_more : (start : Place) (ts : List Turn) (at : Place) (x : Turn × Place)
+    → Halfway start ts at → next_turn at ≡ Ok (Some x)
     → (at.line < 4098) × Halfway start (ts ++ x.0 ∷ []) x.1
 halfway_more start ts at x h e =
     let l = next_was at.line at.rest x e in
@@ -58,17 +62,20 @@ halfway_more start ts at x h e =
       },
     )
 
-pub halfway_end : (start : Place) (ts : List Turn) (at : Place) → Halfway start ts at → next_turn at ≡ Ok None → turns_from 4096 start ≡ Ok ts
+pub halfway_end : (start : Place) (ts : List Turn) (at : Place)
+    → Halfway start ts at → next_turn at ≡ Ok None → turns_from 4096 start ≡ Ok ts
 halfway_end start ts at h e =
     sym h.whole ∙ ap (prefixed ts) (turns_none (4098 - at.line) at e) ∙ ap Ok (append-nil ts)
 
-pub halfway_err : (start : Place) (ts : List Turn) (at : Place) (f : Refusal) → Halfway start ts at → next_turn at ≡ Err f → turns_from 4096 start ≡ Err f
+pub halfway_err : (start : Place) (ts : List Turn) (at : Place) (f : Refusal)
+    → Halfway start ts at → next_turn at ≡ Err f → turns_from 4096 start ≡ Err f
 halfway_err start ts at f h e = sym h.whole ∙ ap (prefixed ts) (turns_err (4098 - at.line) at f e)
 
 -- what the reader answered, undone
-pub from_some : (line : ℕ) (n : Next) (t : TurnLine) → Ok (Some t) ≡ numbered line n → (x : Turn × Place) × ((n ≡ Ok (Some x)) × (t.turn ≡ x.0))
+pub from_some : (line : ℕ) (n : Next) (t : TurnLine) → Ok (Some t) ≡ numbered line n
+    → (x : Turn × Place) × ((n ≡ Ok (Some x)) × (t.turn ≡ x.0))
 from_some line (Ok None) t e = cc
-from_some line (Ok (Some x)) t e = (x, (refl, (let same : ◌≡◌ {A = TurnLine} t (record { line = line; turn = x.0 }) = cc in ap (λ z. z.turn) same)))
+from_some line (Ok (Some x)) t e = (x, (refl, grind arith))
 from_some line (Err f) t e = cc
 
 pub from_none : (line : ℕ) (n : Next) → Ok None ≡ numbered line n → n ≡ Ok None
@@ -78,7 +85,8 @@ pub from_err : (line : ℕ) (n : Next) (f : Refusal) → Err f ≡ numbered line
 from_err line n f e = grind arith
 
 -- one turn of the loop, by what the reader answered and where it then stands
-pub step : (start : Place) (ts : List Turn) (at to : Place) (t : TurnLine) → Halfway start ts at → Ok (Some t) ≡ numbered at.line (next_turn at)
+pub step : (start : Place) (ts : List Turn) (at to : Place) (t : TurnLine)
+    → Halfway start ts at → Ok (Some t) ≡ numbered at.line (next_turn at)
     → to ≡ moved at (next_turn at) → (4098 - to.line < 4098 - at.line) × Halfway start (ts ++ t.turn ∷ []) to
 step start ts at to t h answer after =
     let x = from_some at.line (next_turn at) t answer in
