@@ -15,10 +15,6 @@ use Rattle.lines.proofs.Spelling.{then_was, byte_was, field_spelled, field_was}
 use Rattle.lines.proofs.SpelledLines.{cond_was}
 
 -- a word of fixed bytes
-text_spelled : (w rest : List ℕ) → text w (w ++ rest) ≡ Some rest
-text_spelled [] rest = refl
-text_spelled (c ∷ cs) rest = let more = text_spelled cs rest in grind (arith, common_steps, more)
-
 text_was : (w bs rest : List ℕ) → text w bs ≡ Some rest → bs ≡ w ++ rest
 text_was [] bs rest e = cc
 text_was (c ∷ cs) bs rest e =
@@ -26,9 +22,6 @@ text_was (c ∷ cs) bs rest e =
     byte_was c bs a.0 a.1.0 ∙ ap (λ xs. c ∷ xs) (text_was cs a.0 rest a.1.1)
 
 -- a space and a letter
-letter_spelled : (c : ℕ) (rest : List ℕ) → letter_field (32 ∷ c ∷ rest) ≡ Some (c, rest)
-letter_spelled c rest = refl
-
 first_was : (bs : List ℕ) (x : ℕ × List ℕ) → first bs ≡ Some x → bs ≡ x.0 ∷ x.1
 first_was [] x e = cc
 first_was (c ∷ cs) x e = grind (arith, common_steps)

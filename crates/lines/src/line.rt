@@ -1,5 +1,6 @@
 // The pieces of a line: single bytes, numbers after a space, the line's end. Each function takes
-// the bytes from where its piece should stand, and gives the piece and the bytes after it.
+// the bytes from where its piece should stand, and gives the piece and the bytes after it. (No
+// cursor moves, so nothing is half read where a piece is wanting.)
 ghost use Rattle.std.specs.Prelude.{◌≡◌};
 ghost use Rattle.std.specs.Option.{option_map};
 ghost use Rattle.lines.specs.Lines.{byte, field, fields};

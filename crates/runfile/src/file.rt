@@ -42,7 +42,8 @@ impl<T: Drop> From<AllocFailed<T>> for ReadError {
     }
 }
 
-// All turns that are still to come.
+// All turns that are still to come. (No `for`: at a refusal the reader stays and would refuse
+// again, so as an iterator it would not end.)
 fn rest_of(heap: Global, mut reader: TurnReader) -> Result<Vec<Turn>, ReadError>
     requires { reader.line ≡ 2 }
     ensures { ReadTurns result (turns_from 4096 reader.entry) }

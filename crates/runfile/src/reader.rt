@@ -34,7 +34,7 @@ pub struct TurnReader<'a> {
     line: u32,
 }
 
-// It is seen as the bytes to come,
+// In contracts a reader of a file is the bytes to come,
 impl<'a> Model for FileReader<'a> {
     ghost use Rattle.std.specs.Prelude.{ℕ, List};
 
@@ -43,7 +43,7 @@ impl<'a> Model for FileReader<'a> {
     ghost view = { λ reader. reader.bytes.now };
 }
 
-// and this one as where it stands.
+// and a reader of turns is the place where it stands.
 impl<'a> Model for TurnReader<'a> {
     ghost use Rattle.runfile.specs.Files.{Place};
 

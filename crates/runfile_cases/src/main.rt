@@ -44,14 +44,9 @@ fn answer_line(rt: &HostRuntime, line: &str) -> anyhow::Result<()> {
     Ok(())
 }
 
-fn run(rt: &HostRuntime) -> anyhow::Result<()> {
+fn main(rt: HostRuntime) -> anyhow::Result<()> {
     for line in rt.lines(rt.alloc()) {
-        let line = line?;
-        answer_line(rt, line.as_str())?;
+        answer_line(&rt, line?.as_str())?;
     }
     Ok(())
-}
-
-fn main(rt: HostRuntime) -> anyhow::Result<()> {
-    run(&rt)
 }

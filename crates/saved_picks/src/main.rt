@@ -3,13 +3,9 @@
 
 use runner::{answer, input};
 
-fn run(rt: &HostRuntime) -> anyhow::Result<()> {
+fn main(rt: HostRuntime) -> anyhow::Result<()> {
     let bytes = input(rt.alloc(), rt.stdin())?;
     let text = answer(rt.alloc(), &bytes)?;
     rt.print(text)?;
     Ok(())
-}
-
-fn main(rt: HostRuntime) -> anyhow::Result<()> {
-    run(&rt)
 }
