@@ -13,7 +13,7 @@ use std::io;
 use std::io::Read;
 
 // The bytes of a run file, as far as they decide what it means: one byte past what a run file may
-// have tells a file that is too long, and no more is ever held.
+// have tells a file that is too long, and no more is asked for.
 pub fn input<R: Read + Drop>(heap: Global, reader: R) -> io::Result<Vec<u8>>
     ensures bytes { IfOk result (λ held. IfSome (R.remaining reader) (λ all. vec_items held ≡ take (MAX_BYTES + 1) all)) }
     ensures meaning { IfOk result (λ held. IfSome (R.remaining reader) (λ all. file_of (vec_items held) ≡ file_of all)) }
