@@ -11,6 +11,8 @@ pub enum EntryKind {
     Discard = 3,
 }
 
+// Every kind has all four, since the format has them: `Keep` and `Discard` hold the first record, and the entry before is
+// told by its place.
 #[derive(Clone, Copy)]
 pub struct Entry<R> {
     pub board: usize,

@@ -17,6 +17,7 @@ const MAX_PLACES: usize = 1024;
 
 #[derive(Drop)]
 pub struct Journal<'a, R: Part> {
+    // lent memory, and how many of its entries are used: no `Vec`, since a store asks for no memory
     entries: &'a mut [Entry<R>],
     used: usize,
     boards: usize,

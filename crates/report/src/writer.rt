@@ -104,7 +104,7 @@ impl TurnLines {
     }
 
     // The next turn's line; the writer numbers them from 1. With it, what is written goes on being
-    // the front of a report.
+    // the front of a report. Answer and kind are the format's numbers and no enums: the writer takes any.
     pub fn turn(
         self,
         out: &mut [u8],
