@@ -80,7 +80,8 @@ impl<'a, R: Part> Journal<'a, R> {
         latest_of(self.log(), board).unwrap_or(self.used)
     }
 
-    // Writes an entry into the first place that is not used.
+    // Writes an entry into the first place that is not used. What is said of both journals, the old and the new, here and
+    // in the calls, no type could say of one.
     fn append(&mut self, board: usize, kind: EntryKind, state: R)
         requires kind { kind ≢ First }
         requires within { board < self.old.boards }

@@ -36,7 +36,8 @@ impl<R: Part> Slot<R> {
     }
 }
 
-// The calls are functions of the slice, to which the store hands its own on.
+// The calls are functions of the slice, to which the store hands its own on: a rule of the project, by which what each
+// place holds is said of plain memory.
 
 // The place of the board's standing record; that of its pending one is right behind it.
 fn place_of<R: Part>(slots: &[Slot<R>], board: usize) -> Result<usize, StoreRefusal>
