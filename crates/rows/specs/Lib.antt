@@ -1,0 +1,5 @@
+pub mod Bits
+pub mod Notes
+pub mod Sets
+pub mod Marked
+pub mod Rowed
