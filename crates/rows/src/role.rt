@@ -35,9 +35,9 @@ impl Role {
         }
     }
 
-    // An answer of a board is counted: it is no longer awaited, and a no makes the answer no. Answers whether a loom can
-    // have the board; an answer of no other is counted.
-    pub fn count(&mut self, from: Board, agrees: bool) -> bool
+    // An answer of a board is counted: it is no longer awaited, and a no makes the answer no. Answers whether the number
+    // is below 32, as every board's is; else nothing changes.
+    pub fn count_answer(&mut self, from: Board, agrees: bool) -> bool
         ensures answer { result ≡ nat_lt from 32 }
         ensures after { role_of self.new ≡ cond result (role_counted (role_of self.old) from agrees) (role_of self.old) }
     {

@@ -1,7 +1,7 @@
 use Rattle.std.proofs.Common.{◌==◌, ◌&&◌, ◌∙◌}
 use Rattle.rows.specs.Bits.{has_bit}
 use Rattle.rows.proofs.Bits.{changed_there}
-use Rattle.rows.proofs.role.Role.count.Goals as goal
+use Rattle.rows.proofs.role.Role.count_answer.Goals as goal
 
 pub returns-clause-after : goal.returns-clause-after
 returns-clause-after c =
