@@ -35,7 +35,7 @@ pub struct Loom {
 impl TryFrom<char> for PartKind {
     type Error = UnknownPart;
 
-    ghost try_from_gives = { λ letter r. MatchResult r (λ part. part_of letter ≡ Some part) (λ _. part_of letter ≡ None) };
+    ghost try_from_gives = { λ letter r. MatchResult r (λ part. part_of letter ≡ Some part) (λ e. (part_of letter ≡ None) × (e.0 ≡ letter)) };
 
     fn try_from(letter: char) -> Result<PartKind, UnknownPart> {
         match letter {
