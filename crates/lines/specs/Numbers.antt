@@ -22,6 +22,10 @@ abbrev pub value_from : ℕ → List ℕ → ℕ
 value_from v [] = v
 value_from v (c ∷ cs) = value_from (v * 10 + (c - 48)) cs
 
+-- what the leading digits write, where that is below 2^32, and what follows them
+abbrev pub leading : List ℕ → Option (ℕ × List ℕ)
+leading bs = cond (nat_lt (value_from 0 (digits bs)) (2 ^ 32)) (Some (value_from 0 (digits bs), after_digits bs)) None
+
 -- no digit follows a leading 0
 abbrev pub plain : List ℕ → Bool
 plain [] = false

@@ -16,6 +16,13 @@ pub fn after_byte(bytes: &[u8], wanted: u8) -> Option<&[u8]>
     (*first == wanted).then_some(rest)
 }
 
+// The bytes after the line's end.
+fn after_end(bytes: &[u8]) -> Option<&[u8]>
+    ensures { option_map (λ x. x.now) result ≡ byte 10 bytes.now }
+{
+    after_byte(bytes, b'\n')
+}
+
 // A space and a number.
 pub fn field_at(bytes: &[u8]) -> Option<(u32, &[u8])>
     ensures { option_map seen result ≡ field bytes.now }
@@ -32,6 +39,6 @@ pub fn fields<const N: usize>(bytes: &[u8]) -> Option<([u32; N], &[u8])>
     for number in &mut numbers {
         (*number, rest) = field_at(rest)?;
     }
-    let rest = after_byte(rest, b'\n')?;
+    let rest = after_end(rest)?;
     Some((numbers, rest))
 }

@@ -46,14 +46,22 @@ impl TryFrom<char> for PartKind {
     }
 }
 
+impl PartKind {
+    fn name(self) -> &'static str
+        ensures { result.now ≡ part_name self }
+    {
+        match self {
+            PartKind::Harness => "harness",
+            PartKind::Feed => "feed",
+        }
+    }
+}
+
 impl fmt::Display for PartKind {
     ghost output = { λ part. Some (part_name part) };
 
     fn fmt<W: fmt::Write>(&self, f: &mut fmt::Formatter<W>) -> fmt::Result {
-        f.write_str(match self {
-            PartKind::Harness => "harness",
-            PartKind::Feed => "feed",
-        })
+        f.write_str(self.name())
     }
 }
 
