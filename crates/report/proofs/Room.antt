@@ -1,11 +1,13 @@
 -- 48,000 bytes suffice for a report. Assumes nothing.
-use Rattle.std.proofs.Common.{◌≡◌, ℕ, ◌+◌, ◌*◌, ◌<◌, ◌≤◌, Bool, true, false, leb, List, [], ◌∷◌, length}
+use Rattle.std.proofs.Common.{◌≡◌, ℕ, ◌+◌, ◌*◌, ◌^◌, ◌<◌, ◌≤◌, Bool, true, false, leb, List, [], ◌∷◌, length}
 use Rattle.std.proofs.Common.{is_ok, Result, refl, arith}
 use Rattle.std.specs.List.{AllByRecursion}
 use Rattle.std.proofs.lemmas.Fmt.{length-decimal-le}
 use Rattle.std.proofs.lemmas.List.{length-append}
 use Rattle.std.proofs.lemmas.Bool.{le-leb, lt-leb}
-use Rattle.report.specs.Lines.{state_number, turn_line, board_line, end_line}
+use Rattle.records.specs.declared.feed.Feed.{Feed}
+use Rattle.records.specs.declared.harness.Harness.{Harness}
+use Rattle.report.specs.Lines.{state_number, harness_text, feed_text, turn_line, board_line, end_line}
 use Rattle.report.specs.Reports.{Answer, BoardFacts, turn_lines_from, turn_lines, board_lines}
 use Rattle.report.specs.Reports.{SmallAnswer, ShortBoard, TurnFits, BoardFits, EndFits}
 use Rattle.report.specs.Writers.{tried, fits, turn_tried, board_tried, end_tried}
@@ -44,6 +46,13 @@ boards_short (b ∷ bs) s =
 
 end_short : (n o : ℕ) → n ≤ 4096 → o ≤ 40960 → length (end_line n o) ≤ 15
 end_short n o hn ho = simp length-append (omega (arith, length-decimal-le 4 n, length-decimal-le 5 o))
+
+-- how long a record's spelling is
+pub harness_short : (r : Harness) → r.pick < 2 ^ 32 → r.lifted < 2 ^ 32 → length (harness_text r) ≤ 30
+harness_short r hp hl = simp length-append (omega (arith, length-decimal-le 10 r.pick, length-decimal-le 10 r.lifted))
+
+pub feed_short : (r : Feed) → r.pick < 2 ^ 32 → length (feed_text r) ≤ 30
+feed_short r hp = simp length-append (omega (arith, length-decimal-le 10 r.pick))
 
 -- a line that fits is taken
 ok_tried : {V W : Type 0} (full fit : Bool) (w : W) (next : V) (r : Result V (NotWritten W)) → full ≡ false → fit ≡ true

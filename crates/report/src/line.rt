@@ -42,31 +42,30 @@ impl<const CAP: usize> Text<CAP> {
         self.bytes.as_str()
     }
 
-    // The pieces so far, and one more.
-    pub(crate) fn and(mut self, more: &str) -> Self
-        requires { length (text self) + length more.now ≤ CAP }
-        ensures written { text result ≡ text self.entry ++ more.now }
-        ensures long { length (text result) ≡ length (text self.entry) + length more.now }
+    // One piece more behind those so far. (In place: a chain that hands the text on copies it at each piece.)
+    pub(crate) fn push(&mut self, more: &str)
+        requires { length (text self.old) + length more.now ≤ CAP }
+        ensures written { text self.new ≡ text self.old ++ more.now }
+        ensures long { length (text self.new) ≡ length (text self.old) + length more.now }
     {
         self.bytes.push_str(more);
-        self
     }
 
     // A number in decimal, with no leading zeros.
-    pub(crate) fn and_decimal<I: Integer>(self, n: I) -> Self
-        requires { length (text self) + I.MAX_STR_LEN ≤ CAP }
-        ensures written { text result ≡ text self.entry ++ I.text n }
-        ensures short { length (text result) ≤ length (text self.entry) + I.MAX_STR_LEN }
+    pub(crate) fn push_decimal<I: Integer>(&mut self, n: I)
+        requires { length (text self.old) + I.MAX_STR_LEN ≤ CAP }
+        ensures written { text self.new ≡ text self.old ++ I.text n }
+        ensures short { length (text self.new) ≤ length (text self.old) + I.MAX_STR_LEN }
     {
-        self.and(Buffer::new().format(n))
+        self.push(Buffer::new().format(n));
     }
 
     // 32 bits as 8 hexadecimal digits.
-    pub(crate) fn and_hex(self, bits: u32) -> Self
-        requires { length (text self) + 8 ≤ CAP }
-        ensures written { text result ≡ text self.entry ++ hex_of bits }
-        ensures long { length (text result) ≡ length (text self.entry) + 8 }
+    pub(crate) fn push_hex(&mut self, bits: u32)
+        requires { length (text self.old) + 8 ≤ CAP }
+        ensures written { text self.new ≡ text self.old ++ hex_of bits }
+        ensures long { length (text self.new) ≡ length (text self.old) + 8 }
     {
-        self.and(str::from_utf8(&hex_digits(bits)).unwrap())
+        self.push(str::from_utf8(&hex_digits(bits)).unwrap());
     }
 }

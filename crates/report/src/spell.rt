@@ -6,7 +6,6 @@ ghost use Rattle.report.specs.Texts.{text};
 use crate::line::Text;
 use records::feed::Feed;
 use records::harness::Harness;
-use std::num::f32_from_bits_with_nan;
 
 // a record's part of a board line
 pub type Spelling = Text<30>;
@@ -23,12 +22,13 @@ impl Spelled for Harness {
     ghost spelled = { harness_text };
 
     fn spell(self) -> Spelling {
-        Spelling::new()
-            .and_decimal(self.pick)
-            .and(" ")
-            .and_decimal(self.lifted)
-            .and(" ")
-            .and_hex(self.sum)
+        let mut text = Spelling::new();
+        text.push_decimal(self.pick);
+        text.push(" ");
+        text.push_decimal(self.lifted);
+        text.push(" ");
+        text.push_hex(self.sum);
+        text
     }
 }
 
@@ -36,7 +36,7 @@ impl Spelled for Harness {
 fn shown_bits(bits: u32) -> u32
     ensures { result ≡ shown bits }
 {
-    if f32_from_bits_with_nan(bits).is_nan() {
+    if bits % 0x8000_0000 > 0x7f80_0000 {
         0x7fc0_0000
     } else {
         bits
@@ -47,11 +47,12 @@ impl Spelled for Feed {
     ghost spelled = { feed_text };
 
     fn spell(self) -> Spelling {
-        Spelling::new()
-            .and_decimal(self.pick)
-            .and(" ")
-            .and_hex(shown_bits(self.tension))
-            .and(" ")
-            .and_hex(shown_bits(self.length))
+        let mut text = Spelling::new();
+        text.push_decimal(self.pick);
+        text.push(" ");
+        text.push_hex(shown_bits(self.tension));
+        text.push(" ");
+        text.push_hex(shown_bits(self.length));
+        text
     }
 }
