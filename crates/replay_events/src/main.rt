@@ -12,6 +12,7 @@ use records::event::Event;
 use records::feed::Feed;
 use records::harness::Harness;
 use records::part::{Part, replay_from};
+use std::num::ParseIntError;
 use std::str::Split;
 
 #[derive(Drop)]
@@ -80,17 +81,17 @@ impl Story {
 }
 
 // The next word as a number; a line that ends before it has an empty word there.
-fn number(words: &mut Split<'_, char>, radix: u32) -> anyhow::Result<u32>
+fn number(words: &mut Split<'_, char>, radix: u32) -> Result<u32, ParseIntError>
     requires { (2 ≤ radix) × (radix ≤ 36) }
 {
-    Ok(u32::from_str_radix(words.next().unwrap_or(""), radix)?)
+    u32::from_str_radix(words.next().unwrap_or(""), radix)
 }
 
-fn decimal(words: &mut Split<'_, char>) -> anyhow::Result<u32> {
+fn decimal(words: &mut Split<'_, char>) -> Result<u32, ParseIntError> {
     number(words, 10)
 }
 
-fn bits(words: &mut Split<'_, char>) -> anyhow::Result<u32> {
+fn bits(words: &mut Split<'_, char>) -> Result<u32, ParseIntError> {
     number(words, 16)
 }
 

@@ -101,8 +101,9 @@ impl fmt::Display for Outcome {
 }
 
 fn tell(rt: &HostRuntime, outcome: Outcome, memory: &[u8]) -> anyhow::Result<()> {
+    println!(rt; "memory {}: {outcome}", memory.len())?;
     let text = String::from_utf8_lossy(rt.alloc(), memory)?;
-    println!(rt; "memory {}: {outcome}\n{text}", memory.len())?;
+    println!(rt; "{text}")?;
     Ok(())
 }
 

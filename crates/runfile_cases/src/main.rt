@@ -21,7 +21,10 @@ fn add_piece(file: &mut Vec<u8>, piece: &str) -> anyhow::Result<()> {
         None => (1, piece),
     };
     for _ in 0..times {
-        file.extend(text.bytes().map(byte_of))?;
+        // (Letter by letter: to extend the file by a chain anew for each time takes twice as long.)
+        for letter in text.bytes() {
+            file.push(byte_of(letter))?;
+        }
     }
     Ok(())
 }
@@ -44,9 +47,13 @@ fn answer_line(rt: &HostRuntime, line: &str) -> anyhow::Result<()> {
     Ok(())
 }
 
-fn main(rt: HostRuntime) -> anyhow::Result<()> {
+fn run(rt: &HostRuntime) -> anyhow::Result<()> {
     for line in rt.lines(rt.alloc()) {
-        answer_line(&rt, line?.as_str())?;
+        answer_line(rt, line?.as_str())?;
     }
     Ok(())
+}
+
+fn main(rt: HostRuntime) -> anyhow::Result<()> {
+    run(&rt)
 }
