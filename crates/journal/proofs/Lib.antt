@@ -1,4 +1,6 @@
 pub mod Boards
+pub mod Answered
+pub mod Pending
 pub mod Asked
 pub mod Latest
 pub mod Appended

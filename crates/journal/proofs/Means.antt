@@ -33,7 +33,7 @@ module _ {R : Type 0} (first : R) (entries : List (Entry R)) (used n p : ℕ) (w
   pending_is : (b : Bool) → is_some k.pending ≡ b → is_some (kept_of first (take used entries) p).pending ≡ b
   pending_is b e = ap (λ (j : Kept R). is_some j.pending) (sym is) ∙ e
 
-  spare_left : (m.spare ≡ 0 → ⊥) → used + pendings first entries used n + 2 ≤ length entries
+  pub spare_left : (m.spare ≡ 0 → ⊥) → used + pendings first entries used n + 2 ≤ length entries
   spare_left z = omega (arith, z)
 
   -- a pending record is one of those that are counted

@@ -1,5 +1,5 @@
 -- The places of a new store. Assumes nothing.
-use Rattle.std.proofs.Common.{◌≡◌, ℕ, zero, suc, ◌*◌, ◌%◌, ◌<◌, ◌∷◌, length, get_or, replicate, eqb, None, refl, ap, ◌∙◌, arith}
+use Rattle.std.proofs.Common.{◌≡◌, ℕ, zero, suc, ◌+◌, ◌*◌, ◌%◌, ◌<◌, true, false, ◌∷◌, length, get_or, replicate, eqb, None, refl, ap, ◌∙◌, arith}
 use Rattle.store.specs.Slots.{filled, fresh_slots, pairs}
 use Rattle.store.specs.declared.slots.Slot.{Slot}
 
@@ -16,6 +16,16 @@ module _ {R : Type 0} (first : R) where
   fresh_at (suc n) (suc (suc i)) d h =
       let same : i % 2 ≡ suc (suc i) % 2 = omega arith in
       fresh_at n i d (omega arith) ∙ ap (λ k. filled (eqb k 0) first) same
+
+  pub fresh_standing : (n b : ℕ) (d : Slot R) → b < n → get_or (fresh_slots first n) (2 * b) d ≡ filled true first
+  fresh_standing n b d h =
+      let even : 2 * b % 2 ≡ 0 = omega arith in
+      fresh_at n (2 * b) d (omega arith) ∙ ap (λ k. filled (eqb k 0) first) even
+
+  pub fresh_pending : (n b : ℕ) (d : Slot R) → b < n → get_or (fresh_slots first n) (2 * b + 1) d ≡ filled false first
+  fresh_pending n b d h =
+      let odd : (2 * b + 1) % 2 ≡ 1 = omega arith in
+      fresh_at n (2 * b + 1) d (omega arith) ∙ ap (λ k. filled (eqb k 0) first) odd
 
   pub pairs_fresh : (n : ℕ) → pairs (fresh_slots first n) ≡ replicate n (record { standing = first; pending = None })
   pairs_fresh zero = refl

@@ -2,3 +2,5 @@ pub mod Pairs
 pub mod Slotted
 pub mod Fresh
 pub mod Filled
+pub mod Refused
+pub mod Written

@@ -34,6 +34,15 @@ impl<R: Part> Slot<R> {
         };
         Ok(state)
     }
+
+    // Empties the place, or refuses where it is empty.
+    fn discard(&mut self) -> Result<(), StoreRefusal>
+        ensures emptied { IfOk result (λ _. (self.old.taken ≡ true) × (self.new ≡ filled false R.Part.rules.first)) }
+        ensures free { IfErr result (λ why. (why ≡ WrongPending) × (self.old.taken ≡ false) × (self.new ≡ self.old)) }
+    {
+        self.take()?;
+        Ok(())
+    }
 }
 
 // The calls are functions of the slice, to which the store hands its own on: a rule of the project, by which what each
@@ -95,7 +104,7 @@ fn discard_in<R: Part>(slots: &mut [Slot<R>], board: usize) -> Result<(), StoreR
     ensures memory { slots.new ≡ discard_slots R.Part.rules.first slots.old board }
 {
     let place = place_of(slots, board)?;
-    slots[place + 1].take()?;
+    slots[place + 1].discard()?;
     Ok(())
 }
 
@@ -110,9 +119,14 @@ pub fn prepare<R: Part>(slots: &mut [Slot<R>], boards: usize) -> Result<(), Make
     ensures memory { slots.new ≡ prepared R.Part.rules.first slots.old boards (result_err result) }
 {
     MakeRefusal::check(boards, slots.len() / 2 < boards)?;
-    for (place, slot) in slots[..2 * boards].iter_mut().enumerate() {
-        *slot = Slot {
-            taken: place % 2 == 0,
+    let places = &mut slots[..2 * boards];
+    for board in 0..boards {
+        places[2 * board] = Slot {
+            taken: true,
+            state: R::first(),
+        };
+        places[2 * board + 1] = Slot {
+            taken: false,
             state: R::first(),
         };
     }
