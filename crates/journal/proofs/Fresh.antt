@@ -1,13 +1,14 @@
 -- The entries of a new journal. Assumes nothing.
-use Rattle.std.proofs.Common.{◌≡◌, ℕ, zero, suc, ◌+◌, ◌-◌, ◌/◌, ◌≤◌, Bool, true, false, cond, eqb, List, ◌∷◌, ◌++◌, map, length, take, drop, replicate, None, fold, sum_by, refl, ap, ◌∙◌, arith}
+use Rattle.std.proofs.Common.{◌≡◌, ℕ, zero, suc, ◌+◌, ◌-◌, ◌/◌, ◌≤◌, Bool, true, false, cond, ◌||◌, eqb, ltb, List, ◌∷◌, ◌++◌, map, length, take, drop, replicate, Some, None, fold, sum_by, refl, ap, ◌∙◌, arith}
 use Rattle.std.specs.List.{range_with_len}
 use Rattle.std.proofs.lemmas.List.FromFn.{length-map-range_with_len}
 use Rattle.std.proofs.lemmas.List.{take_at, length-append, length-drop}
 use Rattle.std.proofs.lemmas.List.Folds.{sum_by-replicate}
-use Rattle.std.proofs.lemmas.Bool.{cond-true, le-leb}
+use Rattle.std.proofs.lemmas.Bool.{cond-true, le-leb, ltb-false}
 use Rattle.store.specs.Meaning.{Kept, fresh_meaning}
+use Rattle.store.specs.declared.refusal.MakeRefusal.TheVariants.{BadCount, BadRoom}
 use Rattle.journal.specs.Logs.{told, kept_of, pending_one}
-use Rattle.journal.specs.Journals.{pendings, roomy, kept_at, journal_meaning, first_entry, fresh_entries}
+use Rattle.journal.specs.Journals.{pendings, roomy, kept_at, journal_meaning, first_entry, fresh_entries, journal_refused}
 use Rattle.journal.specs.declared.entry.Entry.{Entry}
 
 -- a log of first entries keeps the first record standing, and none pending
@@ -66,3 +67,12 @@ module _ {R : Type 0} (first : R) (xs : List (Entry R)) (n : ℕ) where
         boards = all_from (kept_at first entries n n) (λ p. cond-true _ _ _ room ∙ kept_is p) 0 n i;
         spare = half i;
       }
+
+-- a journal that is made has a place for each board
+room_refused : (a b c : Bool) → None ≡ cond a (Some BadCount) (cond (b || c) (Some BadRoom) None) → b ≡ false
+room_refused true b c e = absurd (let z : ◌≡◌ {A = ℕ} 0 1 = cc in omega arith)
+room_refused false true c e = absurd (let z : ◌≡◌ {A = ℕ} 0 1 = cc in omega arith)
+room_refused false false c e = refl
+
+pub made-fits : (places n : ℕ) → None ≡ journal_refused places n → n ≤ places
+made-fits places n e = ltb-false places n (room_refused (eqb n 0 || ltb 64 n) (ltb places n) (ltb 1024 places) e)

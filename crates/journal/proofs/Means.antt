@@ -3,7 +3,7 @@ use Rattle.std.proofs.Common.{◌≡◌, ◌≢◌, ℕ, ◌+◌, ◌-◌, ◌/�
 use Rattle.std.proofs.lemmas.Bool.{leb-true, le-leb, cond-false, ne_eqb}
 use Rattle.store.specs.Meaning.{Kept, Meaning, Answer, updated, putting, keeping, discarding, put_under, put_at, put_answer, put_after, keep_under, keep_at, keep_answer}
 use Rattle.journal.specs.Logs.{by_kind, kept_of, pending_one}
-use Rattle.journal.specs.Journals.{pendings, roomy, journal_meaning, entry_of, ended_after}
+use Rattle.journal.specs.Journals.{pendings, roomy, journal_meaning, ended_after}
 use Rattle.journal.specs.declared.entry.Entry.{Entry}
 use Rattle.journal.specs.declared.entry.EntryKind.{EntryKind}
 use Rattle.journal.specs.declared.entry.EntryKind.TheVariants.{First, Put, Keep, Discard}
@@ -24,6 +24,14 @@ module _ {R : Type 0} (first : R) (entries : List (Entry R)) (used n : ℕ) (e :
       ≡ changed (by_kind e.kind e.state) (journal_meaning first entries used n) e.board spare
   means room before then spare s = λ i. record { boards = boards_more first entries used n e room before then i; spare = s i }
 
+module _ {R : Type 0} (first : R) (entries : List (Entry R)) (used n p : ℕ) where
+  pub spare_left : ((journal_meaning first entries used n).spare ≡ 0 → ⊥) → used + pendings first entries used n + 2 ≤ length entries
+  spare_left z = omega (arith, z)
+
+-- an entry that points back to any place
+abbrev pub entry : {R : Type 0} → ℕ → EntryKind → R → ℕ → Entry R
+entry p kind r b = record { board = p; kind = kind; state = r; back = b }
+
 -- a call for a board, of which k is kept
 module _ {R : Type 0} (first : R) (entries : List (Entry R)) (used n p : ℕ) (within : p < n)
     (k : Kept R) (is : k ≡ kept_of first (take used entries) p) where
@@ -32,9 +40,6 @@ module _ {R : Type 0} (first : R) (entries : List (Entry R)) (used n p : ℕ) (w
 
   pending_is : (b : Bool) → is_some k.pending ≡ b → is_some (kept_of first (take used entries) p).pending ≡ b
   pending_is b e = ap (λ (j : Kept R). is_some j.pending) (sym is) ∙ e
-
-  pub spare_left : (m.spare ≡ 0 → ⊥) → used + pendings first entries used n + 2 ≤ length entries
-  spare_left z = omega (arith, z)
 
   -- a pending record is one of those that are counted
   pub place_left : roomy first entries used n ≡ true → is_some k.pending ≡ true → used < length entries
@@ -59,16 +64,16 @@ module _ {R : Type 0} (first : R) (entries : List (Entry R)) (used n p : ℕ) (w
   keep_good : roomy first entries used n ≡ true → is_some k.pending ≡ true → Ok tt ≡ keep_answer m p
   keep_good room some = good_under _ (pending_is true some) ∙ ap keep_at (sym (board_at first entries used n p room within))
 
-  module _ (r : R) where
+  module _ (r : R) (b : ℕ) where
     abbrev with : EntryKind → List (Entry R)
-    with kind = set entries used (entry_of p kind r (take used entries))
+    with kind = set entries used (entry p kind r b)
 
     -- the meaning after put, and that every pending record still has its place
     pub put_means : is_some k.pending ≡ false → (m.spare ≡ 0 → ⊥)
         → (journal_meaning first (with Put) (used + 1) n ≡ put_after 1 m p r) × (roomy first (with Put) (used + 1) n ≡ true)
     put_means free z =
-        let e = entry_of p Put r (take used entries) in
-        let left = spare_left z in
+        let e = entry p Put r b in
+        let left = spare_left first entries used n p z in
         let room : used < length entries = omega (arith, left) in
         let before : roomy first entries used n ≡ true = le-leb _ _ (omega (arith, left)) in
         let none : pending_one (kept_of first (take used entries) p) ≡ 0 = ap (λ v. cond v 1 0) (pending_is false free) in
@@ -86,7 +91,7 @@ module _ {R : Type 0} (first : R) (entries : List (Entry R)) (used n p : ℕ) (w
         → (journal_meaning first (with kind) (used + 1) n ≡ changed (by_kind kind r) m p m.spare)
         × (roomy first (with kind) (used + 1) n ≡ true)
     ends kind over room some =
-        let e = entry_of p kind r (take used entries) in
+        let e = entry p kind r b in
         let fits = leb-true _ _ room in
         let free = place_left room some in
         let one : pending_one (kept_of first (take used entries) p) ≡ 1 = ap (λ v. cond v 1 0) (pending_is true some) in

@@ -19,7 +19,7 @@ append-requires-clause-room g c =
     let kept = c.in_ok-kept.ensures in
     ap (λ r. roomy first (with_entry s p c.args.kind r) (s.used + 1) s.boards) c.first.ensures
     ∙ (end_means first s.entries.now s.used s.boards p kept.within _ kept.by_log
-    first c.args.kind c.requires s.room c.if-is_none.ensures).1
+    first _ c.args.kind c.requires s.room c.if-is_none.ensures).1
 
 pub returns-clause-after : goal.returns-clause-after
 returns-clause-after g c =
@@ -31,4 +31,4 @@ returns-clause-after g c =
     let memory = e.memory ∙ ap (with_entry s p c.args.kind) c.first.ensures in
     (λ i. journal_meaning first (memory i) (e.numbers.0 i) (e.numbers.1 i))
     ∙ (end_means first s.entries.now s.used s.boards p kept.within _ kept.by_log
-    first c.args.kind c.requires s.room c.if-is_none.ensures).0
+    first _ c.args.kind c.requires s.room c.if-is_none.ensures).0

@@ -10,7 +10,7 @@ append-requires-clause-room g c =
     let kept = c.in_ok-kept.ensures in
     let left = λ (z : (meaning_of s).spare ≡ 0). c.if-spare-eq0.false (c.spare.ensures ∙ z) in
     (put_means g.R.Part.rules.first s.entries.now s.used s.boards c.args.board kept.within _ kept.by_log
-    c.args.state (sym c.if-is_some.ensures) left).1
+    c.args.state _ (sym c.if-is_some.ensures) left).1
 
 pub returns-clause-after : goal.returns-clause-after
 returns-clause-after g c =
@@ -21,4 +21,4 @@ returns-clause-after g c =
     let e = c.append.ensures in
     (λ i. journal_meaning first (e.memory i) (e.numbers.0 i) (e.numbers.1 i))
     ∙ (put_means first s.entries.now s.used s.boards c.args.board kept.within _ kept.by_log
-    c.args.state (sym c.if-is_some.ensures) left).0
+    c.args.state _ (sym c.if-is_some.ensures) left).0
