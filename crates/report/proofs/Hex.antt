@@ -1,7 +1,8 @@
 -- The digits that the hex crate gives for a number's bytes. Assumes nothing.
-use Rattle.std.proofs.Common.{◌≡◌, ℕ, ◌/◌, ◌%◌, ◌<◌, List, [], ◌∷◌, slice_index, map, w32, arith}
+use Rattle.std.proofs.Common.{◌≡◌, ℕ, ◌/◌, ◌%◌, ◌<◌, List, [], ◌∷◌, slice_index, map, w32, ap, ◌∙◌, arith}
 use Rattle.std.specs.Int.{to_be_bytes}
-use Rattle.std.specs.Str.{IsAscii, IsUtf8}
+use Rattle.std.specs.Char.{to_ascii_lowercase}
+use Rattle.std.specs.Str.{IsAscii, IsUtf8, str_to_ascii_lowercase}
 use Rattle.std.proofs.lemmas.Bool.Decides.{nat_tests}
 use Rattle.std.proofs.lemmas.List.FromFn.{get_or-map-range_with_len}
 use Rattle.std.proofs.lemmas.Str.{IsUtf8-from_ascii}
@@ -28,6 +29,20 @@ hex_bytes n =
     let first : n / 0x100 / 16 ≡ n / 0x1000 = omega arith in
     rw (byte_digits (n / 0x100_0000), byte_digits (n / 0x1_0000), byte_digits (n / 0x100), byte_digits n)
     (rw (third, second, first))
+
+lower_one : (d : ℕ) → d < 16 → to_ascii_lowercase (hex_digit d) ≡ hex_digit d
+lower_one d h = grind (arith, nat_tests)
+
+lower_hex : (n : ℕ) → str_to_ascii_lowercase (hex_of n) ≡ hex_of n
+lower_hex n = λ i.
+    lower_one (n / 0x1000_0000 % 16) (omega arith) i ∷ lower_one (n / 0x100_0000 % 16) (omega arith) i
+    ∷ lower_one (n / 0x10_0000 % 16) (omega arith) i ∷ lower_one (n / 0x1_0000 % 16) (omega arith) i
+    ∷ lower_one (n / 0x1000 % 16) (omega arith) i ∷ lower_one (n / 0x100 % 16) (omega arith) i
+    ∷ lower_one (n / 0x10 % 16) (omega arith) i ∷ lower_one (n % 16) (omega arith) i ∷ []
+
+-- the digits have small letters, and so stay as they are where letters are made small
+pub small_letters : (n : ℕ) → str_to_ascii_lowercase (encode_lower (to_be_bytes w32 n)) ≡ hex_of n
+small_letters n = ap str_to_ascii_lowercase (hex_bytes n) ∙ lower_hex n
 
 abbrev last_digit : ℕ → ℕ
 last_digit n = hex_digit (n % 16)
