@@ -47,7 +47,8 @@ impl TryFrom<char> for PartKind {
 }
 
 impl PartKind {
-    fn name(self) -> &'static str
+    // The word for the kind of record in a text.
+    pub fn name(self) -> &'static str
         ensures { result.now ≡ part_name self }
     {
         match self {

@@ -5,7 +5,7 @@ ghost use Rattle.std.specs.Prelude.{◌≡◌, ◌+◌, take, IfOk, IfSome, stri
 ghost use Rattle.runfile.specs.Files.{file_of};
 ghost use Rattle.runner.specs.Answers.{summary, refusal_line, answer_to};
 
-use lines::loom::Loom;
+use lines::loom::{Loom, StoreKind};
 use runfile::file::{MAX_BYTES, ReadError, RunFile, read};
 use runfile::refusal::Refusal;
 use std::alloc::{AllocError, Global};
@@ -34,10 +34,19 @@ pub fn refusal_line(heap: Global, refusal: Refusal) -> Result<String, AllocError
 pub fn summary_line(heap: Global, loom: Loom, turns: usize) -> Result<String, AllocError>
     ensures { IfOk result (λ s. string_bytes s ≡ summary loom turns) }
 {
-    format!(in heap;
-        "{} boards, {}, {} records, {} turns\n",
-        loom.boards, loom.store, loom.part, turns,
-    )
+    // (By formats of its own: what a `Display` writes is told only where writing succeeds.)
+    let boards = loom.boards;
+    let part = loom.part.name();
+    match loom.store {
+        StoreKind::Slots => format!(in heap;
+            "{boards} boards, slot store, {part} records, {turns} turns\n"
+        ),
+        StoreKind::Journal { places } => {
+            format!(in heap;
+                "{boards} boards, journal of {places} places, {part} records, {turns} turns\n"
+            )
+        }
+    }
 }
 
 // What the program writes for the bytes of a run file.
